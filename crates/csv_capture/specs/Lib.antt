@@ -1,0 +1,11 @@
+pub mod Stamps
+pub mod LevelsOf
+pub mod Times
+pub mod Digits
+pub mod Fields
+pub mod Header
+pub mod Rows
+pub mod Captures
+pub mod RowsOf
+pub mod RecordsOf
+pub mod Laws

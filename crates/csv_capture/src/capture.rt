@@ -1,0 +1,100 @@
+//! Captures, and what they are read from: levels that are given at times.
+use wheel_types::{Channel, Instant, Keep, List};
+
+/// Which edges of which channels are kept. The crank is always watched, a cam where it has a polarity.
+#[derive(Clone, Copy, Debug, PartialEq, Eq)]
+pub struct Watch {
+    pub crank: Keep,
+    pub cam1: Option<Keep>,
+    pub cam2: Option<Keep>,
+}
+
+/// The columns or signals of a capture. Without a name for the time, it is the first column.
+#[derive(Debug, Drop)]
+pub struct Names {
+    pub time: Option<String>,
+    pub crank: String,
+    pub cam1: String,
+    pub cam2: String,
+}
+
+/// A column of a capture in CSV.
+#[derive(Clone, Copy, Debug, PartialEq, Eq)]
+pub enum Column {
+    Time,
+    Crank,
+    Cam1,
+    Cam2,
+}
+
+/// The first rule that a capture in CSV breaks. Rows are counted from 1, and row 1 is the header.
+#[derive(Clone, Copy, Debug, PartialEq, Eq)]
+pub enum CsvFault {
+    /// No column has the name, or there is no header.
+    NoColumn { column: Column },
+    /// Two or more columns have the name.
+    TwoColumns { column: Column },
+    /// A used column is not in the row.
+    ShortRow { row: u64 },
+    /// The time is no decimal number.
+    BadTime { row: u64 },
+    /// The time is more than a billion seconds in size.
+    TimeTooLarge { row: u64 },
+    /// The time is not a whole number of femtoseconds.
+    TimeTooFine { row: u64 },
+    /// The time is less than that of the row before.
+    TimeFalls { row: u64 },
+    /// A watched level is neither 0 nor 1.
+    BadLevel { row: u64, column: Column },
+}
+
+/// The first rule that a value change dump breaks. Places are counts of bytes before a token.
+#[derive(Clone, Copy, Debug, PartialEq, Eq)]
+pub enum VcdFault {
+    /// The header gives no unit of time.
+    NoTimescale,
+    /// A token has no meaning where it stands.
+    BadToken { at: u64 },
+    /// A time is less than the present one.
+    TimeFalls { at: u64 },
+    /// A time is more than a billion seconds.
+    TimeTooLarge { at: u64 },
+    /// No signal has the name.
+    NoSuchSignal { channel: Channel },
+    /// Signals of the name have different codes.
+    TwoSignals { channel: Channel },
+    /// A signal of the name has more than one bit.
+    WideSignal { channel: Channel },
+    /// The dump ends inside what the place begins.
+    Cut { at: u64 },
+}
+
+/// How a capture ends.
+#[derive(Clone, Copy, Debug, PartialEq, Eq)]
+pub enum End {
+    Clean,
+    Csv(CsvFault),
+    Vcd(VcdFault),
+}
+
+/// The instants of a capture in the order of their times, and how it ends. At a fault the open stamp is not counted.
+#[derive(Debug, Drop)]
+pub struct Capture {
+    pub instants: List<Instant>,
+    pub end: End,
+}
+
+/// A level for each channel that has one.
+#[derive(Clone, Copy, Debug, PartialEq, Eq)]
+pub struct Given {
+    pub crank: Option<bool>,
+    pub cam1: Option<bool>,
+    pub cam2: Option<bool>,
+}
+
+/// A time in femtoseconds, and the last level that was given there for each channel.
+#[derive(Clone, Copy, Debug, PartialEq, Eq)]
+pub struct Stamp {
+    pub time: i128,
+    pub given: Given,
+}

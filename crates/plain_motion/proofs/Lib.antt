@@ -1,0 +1,11 @@
+pub mod Tables
+pub mod CrankPlaces
+pub mod CrankSteps
+pub mod Images
+pub mod LeastPlaces
+pub mod CrankStarts
+pub mod KeptWindows
+pub mod Judged
+pub mod Remembered
+pub mod SameKinds
+pub mod DeterminedWindows

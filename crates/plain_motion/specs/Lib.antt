@@ -1,0 +1,6 @@
+pub mod EdgeTables
+pub mod Windows
+pub mod Ends
+pub mod Memories
+pub mod Sets
+pub mod Laws

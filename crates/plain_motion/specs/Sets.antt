@@ -1,0 +1,19 @@
+-- What a plain set stands for. Lists of instants and verdicts have the last one first.
+use Rattle.std.specs.Prelude.{List, Option, ℤ}
+use Rattle.wheel_types.specs.declared.instant.Instant.{Instant}
+use Rattle.wheel_types.specs.declared.verdict.Verdict.{Verdict}
+use Rattle.wheel_types.specs.declared.parts.WheelParts.{WheelParts}
+use Rattle.plain_motion.specs.declared.set.PlainSet.{PlainSet}
+use Rattle.plain_motion.specs.Memories.{Remembers}
+
+-- the time of the last instant
+abbrev pub last_of : PlainSet → Option ℤ
+last_of s = s.last
+
+-- the wheel whose instants it takes
+abbrev pub wheel_of : PlainSet → WheelParts
+wheel_of s = s.wheel.parts
+
+-- what the set keeps is what these instants give, and these are their verdicts
+pub record StandsFor (s : PlainSet) (past : List Instant) (verdicts : List Verdict) : Type 0 where
+  pub kept : Remembers s.wheel.parts s.window s.last past verdicts

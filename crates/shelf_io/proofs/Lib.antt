@@ -1,0 +1,4 @@
+pub mod Front
+pub mod Numbers
+pub mod Names
+pub mod Views

@@ -1,0 +1,11 @@
+use Rattle.std.proofs.Common.{◌∙◌}
+use Rattle.shelf_io.proofs.Front.{within_more, file_more, writes_on}
+use Rattle.shelf_io.proofs.whole.put_all.Goals as goal
+
+pub loop-written-preserved : goal.loop-written-preserved
+loop-written-preserved g c = record {
+  within = within_more _ _ c.args.piece.now c.loop-written.invariant.within c.in-Ok.ensures.count.1;
+  front = λ h. file_more _ _ c.args.piece.now _ _ _ (c.loop-written.invariant.front h) (c.in-Ok.ensures.appends (c.loop-written.invariant.keeps.tells ∙ h));
+  fits = λ h. c.in-Ok.ensures.fits;
+  keeps = writes_on _ _ _ _ c.loop-written.invariant.keeps c.in-Ok.ensures.keeps;
+}

@@ -1,0 +1,16 @@
+pub mod Shapes
+pub mod Edges
+pub mod Wheels
+pub mod Faults
+pub mod Indices
+pub mod Moves
+pub mod Speeds
+pub mod Events
+pub mod Motions
+pub mod Verdicts
+pub mod Steps
+pub mod Starts
+pub mod Named
+pub mod PlainSteps
+pub mod Plain
+pub mod Texts

@@ -1,0 +1,26 @@
+//! Channels, and the edges that are kept of them.
+
+/// Which way a level goes at an edge.
+#[derive(Clone, Copy, Debug, PartialEq, Eq)]
+pub enum Pol {
+    /// From 0 to 1.
+    Rise,
+    /// From 1 to 0.
+    Fall,
+}
+
+/// Which edges of a channel are kept.
+#[derive(Clone, Copy, Debug, PartialEq, Eq)]
+pub enum Keep {
+    Rising,
+    Falling,
+    Both,
+}
+
+/// A sensor's signal: the crank wheel's, or that of one of two cam wheels.
+#[derive(Clone, Copy, Debug, PartialEq, Eq)]
+pub enum Channel {
+    Crank,
+    Cam1,
+    Cam2,
+}

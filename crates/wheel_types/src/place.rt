@@ -1,0 +1,11 @@
+//! Where an engine can stand between edges.
+
+/// The next edges of the channels: crank edge `j + 1`, and edges `n1` and `n2` of the cams, carried by whole
+/// cycles until `j` numbers an edge of the first cycle. `j`, the last crank edge passed, is the position.
+/// The index of an absent cam is 0. Places are ordered by `j`, then `n1`, then `n2`.
+#[derive(Clone, Copy, Debug, PartialEq, Eq, PartialOrd, Ord)]
+pub struct Place {
+    pub j: u32,
+    pub n1: i32,
+    pub n2: i32,
+}

@@ -1,0 +1,12 @@
+pub mod Gathered
+pub mod Names
+pub mod PlainParts
+pub mod Determined
+pub mod Literals
+pub mod PlainWheels
+pub mod UsualNames
+pub mod Reports
+pub mod Putting
+pub mod Ready
+pub mod Endings
+pub mod Replays

@@ -1,0 +1,22 @@
+use Rattle.std.proofs.Common.{◌≡◌, ◌≤◌, ◌+◌, ◌∙◌, sym, subst, ap, arith, length, get_or, take, reverse}
+use Rattle.std.proofs.lemmas.Result.{err_from_is_err_and}
+use Rattle.wheelsync.proofs.Putting.{HasPut, later_than_last, next_put, stopped, all_put}
+use Rattle.wheelsync.proofs.put.put_report.Goals as goal
+
+pub put_instant-requires-clause-later : goal.put_instant-requires-clause-later
+put_instant-requires-clause-later g c = later_than_last c.args.instants.now c.loop-number.number _ _ c.requires.rising c.loop-number-test.true c.index-instants-number.is c.loop-number.invariant.put.last
+
+pub returns-in_err-put_instant-clause-err : goal.returns-in_err-put_instant-clause-err
+returns-in_err-put_instant-clause-err g c =
+    let p = err_from_is_err_and c.from_residual.result c.from_residual.ensures.1 in
+    rw (p.1) (λ w s. stopped w c.args.set.now c.loop-number.set _ _ _ c.args.instants.now c.loop-number.number _ c.loop-number-test.true c.index-instants-number.is c.loop-number.invariant.put s (c.in_err-put_instant.ensures.err w))
+
+pub loop-number-preserved : goal.loop-number-preserved
+loop-number-preserved g c = record {
+  put = next_put c.args.set.now c.loop-number.set c.put_instant.new.set _ _ _ c.args.instants.now c.loop-number.number _ c.loop-number-test.true c.index-instants-number.is c.loop-number.invariant.put c.in_ok-put_instant.ensures.last c.in_ok-put_instant.ensures.ok;
+  later = omega (arith, c.loop-number.invariant.later, c.in_ok-put_instant.ensures.later);
+}
+
+pub returns-clause-ok : goal.returns-clause-ok
+returns-clause-ok g c = λ w s.
+    all_put w c.args.set.now c.loop-number.set _ _ c.args.instants.now (let e : c.loop-number.number ≡ length c.args.instants.now = omega arith in subst (HasPut c.args.set.now c.loop-number.set _ _ c.args.instants.now) e c.loop-number.invariant.put) s

@@ -1,0 +1,16 @@
+pub mod Words
+pub mod Marks
+pub mod Values
+pub mod Keys
+pub mod ToothPattern
+pub mod WheelFile
+pub mod PlainFile
+pub mod Files
+pub mod Loading
+pub mod Causes
+pub mod Headline
+pub mod Outputs
+pub mod Stepping
+pub mod Ending
+pub mod Finishing
+pub mod Complete

@@ -1,0 +1,29 @@
+-- What calls keep that open files and read them.
+use Rattle.std.specs.Prelude.{◌≡◌, ◌≤◌, ◌⊎◌, IsTrue}
+use Rattle.shelf_io.specs.Shelf.{View}
+use Rattle.wheelsync.specs.declared.cause.Cause.{Cause}
+use Rattle.wheelsync.specs.declared.cause.Cause.TheVariants as cause
+
+-- no file changed, and only the count of reads may have risen
+pub record LoadsOn (v w : View) : Type 0 where
+  pub no_less : v.faults_in ≤ w.faults_in
+  pub out : w.faults_out ≡ v.faults_out
+  pub tells : w.tells ≡ v.tells
+  pub steady : IsTrue v.steady → IsTrue w.steady
+  pub files : IsTrue v.tells → w.file ≡ v.file
+
+-- the causes with which loading a file can end
+abbrev pub EndsLoading : Cause → Type 0
+EndsLoading e = (e ≡ cause.ReadFault) ⊎ ((e ≡ cause.FileLimit) ⊎ (e ≡ cause.Memory))
+
+-- the causes with which reading a model can end
+abbrev pub EndsModel : Cause → Type 0
+EndsModel e = (e ≡ cause.Model) ⊎ EndsLoading e
+
+-- the causes with which reading a capture can end
+abbrev pub EndsCapture : Cause → Type 0
+EndsCapture e = (e ≡ cause.Capture) ⊎ EndsLoading e
+
+-- the causes with which writing can end
+abbrev pub EndsWriting : Cause → Type 0
+EndsWriting e = (e ≡ cause.WriteFault) ⊎ (e ≡ cause.Memory)

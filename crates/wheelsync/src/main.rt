@@ -1,0 +1,100 @@
+//! Wheelsync: what the edges of a crank wheel and of cam wheels prove about an engine's position.
+//!
+//! `main` makes the files and streams of the system and hands them to `run`, which does all that the program does.
+#![tactic(auto)]
+
+ghost use Rattle.std.specs.Prelude.{◌≡◌, ◌⊎◌};
+
+mod capture_file;
+mod cause;
+mod ending;
+mod help;
+mod keys;
+mod load;
+mod numbers;
+mod put;
+mod replay;
+mod report;
+mod status;
+mod tap;
+#[cfg(test)]
+mod tests;
+mod top;
+mod wheel_file;
+#[cfg(test)]
+mod wheel_file_tests;
+mod words;
+
+pub use capture_file::accept_capture;
+pub use cause::Cause;
+pub use ending::finish;
+use help::answer;
+pub use keys::{Key, PatternFault};
+pub use load::{load_capture, load_model};
+pub use put::put_report;
+pub use replay::serve;
+pub use report::report_line;
+use shelf_io::{RealShelf, Sink, StdSink, write_all};
+pub use status::Status;
+use std::alloc::AllocError;
+use std::env;
+use std::io::{IsTerminal, Write};
+use std::process::ExitCode;
+pub use tap::{Go, Tap, mark};
+pub use top::run;
+pub use wheel_file::{ModelFault, read_wheel_file};
+pub use words::replay_words;
+
+/// The words after the program's name, or the status where there are none to be had.
+fn words_of(rt: &HostRuntime) -> Result<Vec<String>, Status> {
+    let Ok(args) = env::args(rt) else {
+        return Err(Status::Usage);
+    };
+    match args.skip(1).collect(rt.alloc()) {
+        Ok(words) => Ok(words),
+        Err(AllocError) => Err(Status::Memory),
+    }
+}
+
+/// Hands on what waits for standard output. Where that fails the status is a write fault, whose line comes on notes where
+/// there is none yet.
+fn close<W: Write + Drop, N: Sink>(status: Status, out: &mut StdSink<W>, notes: &mut N) -> Status
+    ensures { (result ≡ status) ⊎ (result ≡ Status.WriteFault) }
+{
+    if out.finish().is_ok() {
+        return status;
+    }
+    if status == Status::Done {
+        let _ = write_all(notes, b"write fault\n");
+    }
+    Status::WriteFault
+}
+
+fn main(rt: HostRuntime) -> ExitCode {
+    let words = match words_of(&rt) {
+        Ok(words) => words,
+        Err(status) => return ExitCode::from(status as u8),
+    };
+    let stdout = rt.stdout();
+    let is_terminal = stdout.is_terminal();
+    let mut out = StdSink::new(rt.alloc(), stdout, is_terminal);
+    let mut notes = StdSink::new(rt.alloc(), rt.stderr(), true);
+    let status = match answer(&words) {
+        Some(text) => match write_all(&mut out, text) {
+            Ok(()) => Status::Done,
+            Err(_) => Status::WriteFault,
+        },
+        None => {
+            let mut shelf = RealShelf::new(rt.alloc(), &rt);
+            run(
+                rt.alloc(),
+                &words,
+                &mut shelf,
+                &mut out,
+                &mut notes,
+                Vec::new(rt.alloc()),
+            )
+        }
+    };
+    ExitCode::from(close(status, &mut out, &mut notes) as u8)
+}
