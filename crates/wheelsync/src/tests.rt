@@ -75,10 +75,11 @@ fn no_taps(alloc: Global) -> Vec<Box<dyn Tap>> {
 
 /// A shelf with the files `wheel` and `capture`.
 fn shelf_of(alloc: Global, wheel: &[u8], capture: &[u8], fails: &[u64]) -> Result<MemShelf, Fail> {
-    let mut files = Vec::new(alloc);
-    files.push((text(alloc, "wheel")?, wheel.to_vec(alloc)?))?;
-    files.push((text(alloc, "capture")?, capture.to_vec(alloc)?))?;
-    Ok(MemShelf::new(alloc, files, 1 << 16, fails.to_vec(alloc)?))
+    let first = (String::from_str(alloc, "wheel")?, wheel.to_vec(alloc)?);
+    let second = (String::from_str(alloc, "capture")?, capture.to_vec(alloc)?);
+    let fails = fails.to_vec(alloc)?;
+    let files = vec![in alloc; first, second]?;
+    Ok(MemShelf::new(alloc, files, 1 << 16, fails))
 }
 
 /// Runs words over the two files, where calls of the shelf and writes on out with these numbers fail.
