@@ -9,3 +9,5 @@ pub mod Judged
 pub mod Remembered
 pub mod SameKinds
 pub mod DeterminedWindows
+pub mod ListedPlaces
+pub mod Existing

@@ -13,5 +13,8 @@ mod window;
 
 pub use bounds::{ratio_ok, speed_ok};
 pub use edges::{Edges, find_edges};
-pub use laws::{ends_are_steps, one_kind, one_window};
+pub use laws::{
+    ends_are_steps, one_kind, one_verdict, one_window, start_and_end, verdicts_are_one,
+    verdicts_exist,
+};
 pub use set::{PlaceFault, PlainSet};

@@ -1,6 +1,6 @@
 -- From the end of the work to what the run says.
 use Rattle.std.proofs.Common.{◌≡◌, ℕ, ◌⊎◌, inl, inr, List, Option, None, Some, IfSome, IfErr, IsErrOf, Result, Ok, Err, refl, sym, ◌∙◌, subst, ap}
-use Rattle.std.specs.Io.KnownBytes.{Appends, Keeps}
+use Rattle.std.specs.Io.KnownBytes.{Appends}
 use Rattle.wheelsync.specs.declared.cause.Cause.{Cause}
 use Rattle.wheelsync.specs.declared.cause.Cause.TheVariants as cause
 use Rattle.wheelsync.specs.declared.status.Status.{Status}

@@ -5,7 +5,10 @@ pub mod Determined
 pub mod Literals
 pub mod PlainWheels
 pub mod UsualNames
+pub mod Sayings
+pub mod OneReport
 pub mod Reports
+pub mod WholeReports
 pub mod Putting
 pub mod Ready
 pub mod Endings

@@ -1,6 +1,6 @@
 -- A wheel file of the crank alone has no edge of a cam.
-use Rattle.std.proofs.Common.{◌≡◌, ℕ, ◌+◌, ◌/◌, ◌%◌, ◌^◌, ◌≤◌, ◌<◌, ◌⊎◌, inl, inr, List, [], ◌∷◌, length, get_or, refl, sym, ◌∙◌, ap, arith}
-use Rattle.std.specs.Prelude.{All, Option, Some, None, filter, is_some}
+use Rattle.std.proofs.Common.{◌≡◌, ℕ, ◌/◌, ◌%◌, ◌≤◌, ◌<◌, ◌⊎◌, inl, inr, List, [], ◌∷◌, length, get_or, refl, ◌∙◌, ap, arith}
+use Rattle.std.specs.Prelude.{All, None, filter, is_some}
 use Rattle.std.proofs.lemmas.List.Elements.{All-get_or}
 use Rattle.std.proofs.lemmas.List.{get_or_past}
 use Rattle.std.proofs.lemmas.Bool.{cases_lt}
@@ -9,8 +9,8 @@ use Rattle.wheel_types.specs.declared.channel.Keep.TheVariants.{Rising, Falling,
 use Rattle.wheel_types.specs.declared.channel.Channel.{Channel}
 use Rattle.wheel_types.specs.declared.channel.Channel.TheVariants.{Cam1, Cam2}
 use Rattle.wheel_types.specs.declared.parts.WheelParts.{WheelParts}
-use Rattle.wheel_types.specs.Edges.{below, slot_count, slot_before, keep_of, level_of, kept, change, edge_at, edge_slots, edge_count}
-use Rattle.wheelsync.specs.PlainFile.{IsPlainWheelFile, HasPlainSlots}
+use Rattle.wheel_types.specs.Edges.{below, slot_count, slot_before, keep_of, level_of, kept, change, edge_at, edge_count}
+use Rattle.wheelsync.specs.PlainFile.{IsPlainWheelFile}
 use Rattle.wheelsync.specs.Files.{HasNoCam}
 
 -- an entry is 0 or 1, also past the end, where it is 0

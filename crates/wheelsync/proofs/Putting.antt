@@ -1,21 +1,21 @@
 -- A report that is written line by line.
-use Rattle.std.proofs.Common.{◌≡◌, ℕ, zero, suc, ◌+◌, ◌<◌, ◌≤◌, ◌⊎◌, inl, inr, ℤ, ◌<ℤ◌, List, [], ◌∷◌, ◌++◌, length, reverse, take, get_or, refl, sym, ap, ◌∙◌, subst, arith, length-append, add-one}
-use Rattle.std.proofs.lemmas.List.{length-take-le, length-reverse, take-append-le}
+use Rattle.std.proofs.Common.{◌≡◌, ℕ, zero, suc, ◌+◌, ◌<◌, ◌≤◌, inl, inr, ℤ, ◌<ℤ◌, List, [], ◌∷◌, ◌++◌, length, reverse, take, get_or, refl, sym, ap, ◌∙◌, subst, arith, length-append, add-one}
+use Rattle.std.proofs.lemmas.List.{length-take-le, length-reverse}
 use Rattle.std.proofs.Math.Seq.{take-length, take-append-add}
 use Rattle.std.specs.Prelude.{Option, Some, IfSome}
-use Rattle.std.specs.Io.KnownBytes.{Appends, Keeps}
+use Rattle.std.specs.Io.KnownBytes.{Appends}
 use Rattle.std.proofs.KnownBytes.{Appends-trans, Appends-kept}
 use Rattle.wheel_types.specs.declared.parts.WheelParts.{WheelParts}
 use Rattle.wheel_types.specs.declared.instant.Instant.{Instant}
 use Rattle.wheel_types.specs.declared.verdict.Verdict.{Verdict}
 use Rattle.wheel_types.specs.Verdicts.{AreVerdicts, IsRising}
-use Rattle.wheel_types.specs.Texts.{report_text, line_text}
+use Rattle.wheel_types.specs.Texts.{report_text}
 use Rattle.plain_motion.specs.declared.set.PlainSet.{PlainSet}
 use Rattle.plain_motion.specs.Memories.{last_time}
 use Rattle.plain_motion.specs.Sets.{last_of}
-use Rattle.wheelsync.specs.Headline.{IsReport}
-use Rattle.wheelsync.specs.Outputs.{AppendsPrefix, GetsReport, GetsFront}
-use Rattle.wheelsync.specs.Stepping.{StandsOver, GetsLine, GetsLineFront}
+use Rattle.wheelsync.specs.Outputs.{AppendsPrefix, GetsReport}
+use Rattle.wheelsync.specs.Stepping.{StandsOver, GetsLine, GetsLineFront, GetsSteppedFront}
+use Rattle.wheelsync.proofs.Sayings.{report_of}
 use Rattle.wheelsync.proofs.Reports.{one_each, report_text-next, reverse_next, reverse_take}
 
 -- the verdicts for which a set stands
@@ -83,16 +83,16 @@ prefix_all old new text a = (length text, (omega arith, subst (Appends old new) 
 pub stopped : (w : WheelParts) (first before : PlainSet) (old mid new : Option (List ℕ)) (is : List Instant) (k : ℕ) (i : Instant) → k < length is → i ≡ get_or is k i
     → HasPut first before old mid is k → StandsOver w first [] []
     → ((past : List Instant) (verdicts : List Verdict) → StandsOver w before past verdicts → GetsLineFront mid new w (k + 1) i past verdicts)
-    → GetsFront old new w is
+    → GetsSteppedFront old new w is
 stopped w first before old mid new is k i h here p s step = by_front (step (reverse (take k is)) r.verdicts r.stands)
   where
     r : HasReport w before old mid is k
     r = p.report w s
 
-    by_front : GetsLineFront mid new w (k + 1) i (reverse (take k is)) r.verdicts → GetsFront old new w is
+    by_front : GetsLineFront mid new w (k + 1) i (reverse (take k is)) r.verdicts → GetsSteppedFront old new w is
     by_front (inl kept) =
         let under : k ≤ length is = omega arith in
-        (k, (report_text 1 (take k is) (reverse r.verdicts), (under, (record { verdicts = r.verdicts; window = r.stands.stands.kept.window; proved = verdicts_over w before (reverse (take k is)) r.verdicts r.stands; lines = refl }, prefix_all old new _ (Appends-kept old mid new _ r.out kept)))))
+        (k, (report_text 1 (take k is) (reverse r.verdicts), (under, (report_of w (take k is) _ r.verdicts r.stands.stands.kept.window (verdicts_over w before (reverse (take k is)) r.verdicts r.stands) refl, prefix_all old new _ (Appends-kept old mid new _ r.out kept)))))
     by_front (inr (v, (window, (verdicts, front)))) =
         let under : suc k ≤ length is = omega arith in (
           suc k,
@@ -101,7 +101,7 @@ stopped w first before old mid new is k i h here p s step = by_front (step (reve
             (
               under,
               (
-                record { verdicts = v ∷ r.verdicts; window = window; proved = subst (λ past. AreVerdicts w past (v ∷ r.verdicts) window) (sym (reverse_next is k i h here)) verdicts; lines = refl },
+                report_of w (take (suc k) is) _ (v ∷ r.verdicts) window (subst (λ past. AreVerdicts w past (v ∷ r.verdicts) window) (sym (reverse_next is k i h here)) verdicts) refl,
                 subst (AppendsPrefix old new) (sym (report_text-next is r.verdicts k i v h here (counted w before old mid is k h r))) (prefix_after old mid new _ _ r.out front),
               ),
             ),
@@ -115,7 +115,7 @@ all_put w first set old new is p s =
     let all : take (length is) is ≡ is = take-length is in (
       report_text 1 is (reverse r.verdicts),
       (
-        record { verdicts = r.verdicts; window = r.stands.stands.kept.window; proved = subst (λ l. AreVerdicts w (reverse l) r.verdicts r.stands.stands.kept.window) all (verdicts_over w set (reverse (take (length is) is)) r.verdicts r.stands); lines = refl },
+        report_of w is _ r.verdicts r.stands.stands.kept.window (subst (λ l. AreVerdicts w (reverse l) r.verdicts r.stands.stands.kept.window) all (verdicts_over w set (reverse (take (length is) is)) r.verdicts r.stands)) refl,
         subst (λ l. Appends old new (report_text 1 l (reverse r.verdicts))) all r.out,
       ),
     )

@@ -1,5 +1,5 @@
 -- Accepted files give no cause to end.
-use Rattle.std.proofs.Common.{◌≡◌, ℕ, ◌<◌, ◌≤◌, ◌⊎◌, inl, inr, List, length, Option, None, Some, sym, ◌∙◌, subst, ap, arith}
+use Rattle.std.proofs.Common.{◌≡◌, ℕ, inl, inr, List, length, Option, None, Some, sym, ◌∙◌, subst, ap, arith}
 use Rattle.wheel_types.specs.declared.parts.WheelParts.{WheelParts}
 use Rattle.csv_capture.specs.declared.capture.Capture.{Capture}
 use Rattle.wheelsync.specs.declared.cause.Cause.TheVariants as cause

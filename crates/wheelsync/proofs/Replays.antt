@@ -1,7 +1,6 @@
 -- The parts of a replay put together.
-use Rattle.std.proofs.Common.{◌≡◌, ℕ, ◌⊎◌, inl, inr, List, Option, Result, Ok, Err, IfErr, IfOk, IsErrOf, refl, sym, subst, ap}
+use Rattle.std.proofs.Common.{◌≡◌, ℕ, ◌⊎◌, inl, inr, List, Option, Result, Ok, Err, IfErr, IsErrOf, sym, subst, ap}
 use Rattle.std.specs.Prelude.{OnOk, OnErr}
-use Rattle.std.specs.Io.KnownBytes.{Keeps}
 use Rattle.std.proofs.KnownBytes.{Keeps-refl}
 use Rattle.wheel_types.specs.declared.parts.WheelParts.{WheelParts}
 use Rattle.csv_capture.specs.declared.capture.Capture.{Capture}
@@ -9,9 +8,13 @@ use Rattle.wheelsync.specs.declared.cause.Cause.{Cause}
 use Rattle.wheelsync.specs.declared.cause.Cause.TheVariants as cause
 use Rattle.wheelsync.specs.Files.{Holds, HasWheel, HasCapture, IsAccepted}
 use Rattle.wheelsync.specs.Loading.{EndsCapture, EndsWriting}
-use Rattle.wheelsync.specs.Causes.{ModelGives, CaptureGives, RunGives}
+use Rattle.wheelsync.specs.Causes.{CaptureGives, RunGives}
 use Rattle.wheelsync.specs.Outputs.{GetsReport, GetsFront}
 use Rattle.wheelsync.specs.Ending.{Wrote}
+use Rattle.wheelsync.specs.Stepping.{GetsSteppedFront}
+use Rattle.wheel_types.specs.Verdicts.{IsRising}
+use Rattle.wheelsync.proofs.PlainWheels.{plain_has_no_cam}
+use Rattle.wheelsync.proofs.WholeReports.{front_of_whole}
 
 -- a capture that was refused gives its cause
 pub capture_gives : (r : Result Capture Cause) (file : List ℕ → Option (List ℕ)) (name bytes text : List ℕ) (w : WheelParts) → Holds file name bytes → text ≡ bytes
@@ -49,13 +52,18 @@ pub writing_gives : (file : List ℕ → Option (List ℕ)) (names : List ℕ ×
 writing_gives file names e (inl is) = subst (RunGives file names) (sym is) tt
 writing_gives file names e (inr is) = subst (RunGives file names) (sym is) (inl tt)
 
+-- what was written is a prefix of the report of all instants
+whole_front : (file : List ℕ → Option (List ℕ)) (names : List ℕ × List ℕ) (w : WheelParts) (c : Capture) (old new : Option (List ℕ)) → HasWheel file names.0 w → IsRising c.instants
+    → GetsSteppedFront old new w c.instants → GetsFront old new w c.instants
+whole_front file names w c old new wheel rising front = front_of_whole w c.instants old new wheel.wheel.means.wheel (plain_has_no_cam wheel.bytes w wheel.wheel) rising front
+
 -- what writing the report of accepted files leaves on out
 pub wrote_report : {T : Type 0} (r : Result T Cause) (file mid : List ℕ → Option (List ℕ)) (names : List ℕ × List ℕ) (w : WheelParts) (c : Capture) (old new : Option (List ℕ))
-    → mid ≡ file → HasWheel file names.0 w → HasCapture mid names.1 w c → OnOk r (GetsReport old new w c.instants) → OnErr r (GetsFront old new w c.instants) → IfErr r EndsWriting
+    → mid ≡ file → HasWheel file names.0 w → HasCapture mid names.1 w c → OnOk r (GetsReport old new w c.instants) → OnErr r (GetsSteppedFront old new w c.instants) → IfErr r EndsWriting → IsRising c.instants
     → Wrote file names old new r
-wrote_report {T} (Ok x) file mid names w c old new same wheel capture ok err kinds =
+wrote_report {T} (Ok x) file mid names w c old new same wheel capture ok err kinds rising =
     (w, (c, (record { model = wheel; capture_file = subst (λ f. HasCapture f names.1 w c) same capture }, ok)))
-wrote_report {T} (Err e) file mid names w c old new same wheel capture ok err (inl is) =
-    subst (λ k. Wrote {T = T} file names old new (Err k)) (sym is) (inr (w, (c, (record { model = wheel; capture_file = subst (λ f. HasCapture f names.1 w c) same capture }, err))))
-wrote_report {T} (Err e) file mid names w c old new same wheel capture ok err (inr is) =
-    subst (λ k. Wrote {T = T} file names old new (Err k)) (sym is) (inr (w, (c, (record { model = wheel; capture_file = subst (λ f. HasCapture f names.1 w c) same capture }, err))))
+wrote_report {T} (Err e) file mid names w c old new same wheel capture ok err (inl is) rising =
+    subst (λ k. Wrote {T = T} file names old new (Err k)) (sym is) (inr (w, (c, (record { model = wheel; capture_file = subst (λ f. HasCapture f names.1 w c) same capture }, whole_front file names w c old new wheel rising err))))
+wrote_report {T} (Err e) file mid names w c old new same wheel capture ok err (inr is) rising =
+    subst (λ k. Wrote {T = T} file names old new (Err k)) (sym is) (inr (w, (c, (record { model = wheel; capture_file = subst (λ f. HasCapture f names.1 w c) same capture }, whole_front file names w c old new wheel rising err))))

@@ -1,5 +1,5 @@
 -- The capture of a file depends on the texts of the names alone.
-use Rattle.std.proofs.Common.{◌≡◌, ℕ, List, Bool, false, refl, sym, ◌∙◌, ap}
+use Rattle.std.proofs.Common.{◌≡◌, ℕ, List, false, refl, sym, ◌∙◌, ap}
 use Rattle.csv_capture.specs.declared.capture.Names.{Names}
 use Rattle.csv_capture.specs.declared.capture.Watch.{Watch}
 use Rattle.csv_capture.specs.declared.capture.Capture.{Capture}

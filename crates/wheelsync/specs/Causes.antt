@@ -1,5 +1,5 @@
 -- The first cause to end a replay, in the order in which its files are read.
-use Rattle.std.specs.Prelude.{◌≡◌, ℕ, ◌⊎◌, List, Some, None, ⊤, Result, Ok, Err}
+use Rattle.std.specs.Prelude.{◌≡◌, ℕ, ◌⊎◌, List, None, ⊤}
 use Rattle.std.specs.declared.option.Option.{Option}
 use Rattle.wheel_types.specs.declared.parts.WheelParts.{WheelParts}
 use Rattle.csv_capture.specs.declared.capture.Capture.{Capture}

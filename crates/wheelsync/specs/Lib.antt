@@ -8,9 +8,11 @@ pub mod PlainFile
 pub mod Files
 pub mod Loading
 pub mod Causes
+pub mod Sayings
 pub mod Headline
 pub mod Outputs
 pub mod Stepping
 pub mod Ending
 pub mod Finishing
 pub mod Complete
+pub mod Laws

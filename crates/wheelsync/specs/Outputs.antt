@@ -1,5 +1,5 @@
 -- What a run leaves on out and on notes.
-use Rattle.std.specs.Prelude.{◌≡◌, ℕ, ◌≤◌, ◌⊎◌, List, [], ◌∷◌, ◌++◌, length, take, codes, Some, None, ⊤}
+use Rattle.std.specs.Prelude.{ℕ, ◌≤◌, ◌⊎◌, List, length, take}
 use Rattle.std.specs.declared.option.Option.{Option}
 use Rattle.std.specs.Io.KnownBytes.{Appends, Keeps}
 use Rattle.wheel_types.specs.declared.parts.WheelParts.{WheelParts}
@@ -16,9 +16,9 @@ AppendsPrefix old new text = (k : ℕ) × ((k ≤ length text) × Appends old ne
 abbrev pub GetsReport : Option (List ℕ) → Option (List ℕ) → WheelParts → List Instant → Type 0
 GetsReport old new w instants = (text : List ℕ) × (IsReport w instants text × Appends old new text)
 
--- they grow by a prefix of the report of the first instants
+-- they grow by a prefix of the report of the instants
 abbrev pub GetsFront : Option (List ℕ) → Option (List ℕ) → WheelParts → List Instant → Type 0
-GetsFront old new w instants = (k : ℕ) × ((text : List ℕ) × ((k ≤ length instants) × (IsReport w (take k instants) text × AppendsPrefix old new text)))
+GetsFront old new w instants = (text : List ℕ) × (IsReport w instants text × AppendsPrefix old new text)
 
 -- the report of accepted files
 abbrev pub GetsWhole : (List ℕ → Option (List ℕ)) → List ℕ × List ℕ → Option (List ℕ) → Option (List ℕ) → Type 0

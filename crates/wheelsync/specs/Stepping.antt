@@ -1,5 +1,5 @@
 -- What one more instant adds to a report.
-use Rattle.std.specs.Prelude.{◌≡◌, ℕ, ◌⊎◌, List, ◌∷◌}
+use Rattle.std.specs.Prelude.{◌≡◌, ℕ, ◌≤◌, ◌⊎◌, List, ◌∷◌, length, take}
 use Rattle.std.specs.declared.option.Option.{Option}
 use Rattle.std.specs.Io.KnownBytes.{Appends, Keeps}
 use Rattle.wheel_types.specs.declared.parts.WheelParts.{WheelParts}
@@ -9,6 +9,7 @@ use Rattle.wheel_types.specs.Verdicts.{AreVerdicts}
 use Rattle.wheel_types.specs.Texts.{line_text}
 use Rattle.plain_motion.specs.declared.set.PlainSet.{PlainSet}
 use Rattle.plain_motion.specs.Sets.{StandsFor, wheel_of}
+use Rattle.wheelsync.specs.Headline.{IsReport}
 use Rattle.wheelsync.specs.Outputs.{AppendsPrefix}
 
 -- the set stands, over this wheel, for the instants, and these are their verdicts
@@ -24,3 +25,7 @@ GetsLine old new w set index i past verdicts = (v : Verdict) × (StandsOver w se
 abbrev pub GetsLineFront : Option (List ℕ) → Option (List ℕ) → WheelParts → ℕ → Instant → List Instant → List Verdict → Type 0
 GetsLineFront old new w index i past verdicts = Keeps old new
     ⊎ ((v : Verdict) × ((window : List Instant) × (AreVerdicts w (i ∷ past) (v ∷ verdicts) window × AppendsPrefix old new (line_text index i v))))
+
+-- they grow by a prefix of the report of the first instants
+abbrev pub GetsSteppedFront : Option (List ℕ) → Option (List ℕ) → WheelParts → List Instant → Type 0
+GetsSteppedFront old new w instants = (k : ℕ) × ((text : List ℕ) × ((k ≤ length instants) × (IsReport w (take k instants) text × AppendsPrefix old new text)))

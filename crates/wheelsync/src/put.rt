@@ -8,8 +8,8 @@ ghost use Rattle.wheel_types.specs.declared.verdict.Verdict.{Verdict as Judgemen
 ghost use Rattle.wheel_types.specs.Verdicts.{IsRising, AreWithin};
 ghost use Rattle.plain_motion.specs.Sets.{last_of};
 ghost use Rattle.wheelsync.specs.Loading.{EndsWriting};
-ghost use Rattle.wheelsync.specs.Outputs.{AppendsPrefix, GetsReport, GetsFront};
-ghost use Rattle.wheelsync.specs.Stepping.{StandsOver, GetsLine, GetsLineFront};
+ghost use Rattle.wheelsync.specs.Outputs.{AppendsPrefix, GetsReport};
+ghost use Rattle.wheelsync.specs.Stepping.{StandsOver, GetsLine, GetsLineFront, GetsSteppedFront};
 
 use crate::{Cause, report_line};
 use plain_motion::PlainSet;
@@ -80,7 +80,7 @@ pub fn put_report<O: Sink>(
     requires sizes { AreWithin (10 ^ 24) instants.now }
     ensures later { O.faults out.old ≤ O.faults out.new }
     ensures ok { OnOk result ((w : WheelParts) → StandsOver w set.old [] [] → GetsReport (O.taken out.old) (O.taken out.new) w instants.now) }
-    ensures err { OnErr result ((w : WheelParts) → StandsOver w set.old [] [] → GetsFront (O.taken out.old) (O.taken out.new) w instants.now) }
+    ensures err { OnErr result ((w : WheelParts) → StandsOver w set.old [] [] → GetsSteppedFront (O.taken out.old) (O.taken out.new) w instants.now) }
     ensures kinds { IfErr result EndsWriting }
     ensures write { IsErrOf result Cause.WriteFault → Rose (O.faults out.old) (O.faults out.new) }
 {

@@ -1,5 +1,9 @@
 //! Runs in memory, from words and files to status, out and notes.
 
+use crate::example_files::{
+    SIXTY_CAPTURE, SIXTY_REPORT, SIXTY_WHEEL, THIRTY_SIX_CAPTURE, THIRTY_SIX_REPORT,
+    THIRTY_SIX_WHEEL,
+};
 use crate::{Status, Tap, run};
 use shelf_io::{MemShelf, MemSink};
 use std::alloc::Global;
@@ -121,7 +125,7 @@ fn check(
 
 #[test]
 fn replays_say_what_the_edges_prove(rt: HostRuntime) -> Result<(), Fail> {
-    let cases: [(&str, &[u8], &[u8], &[u8]); 7] = [
+    let cases: [(&str, &[u8], &[u8], &[u8]); 9] = [
         ("the long gap is found", THREE_TEETH, FOUND, FOUND_REPORT),
         (
             "a gap on the ratio",
@@ -154,6 +158,18 @@ fn replays_say_what_the_edges_prove(rt: HostRuntime) -> Result<(), Fail> {
             b"t,crank\n-0.001,0\n0,1\n0.001,0\n0.015,1\n0.016,0\n0.03,1\n0.031,0",
             b"1 0 C+ open 1:0:0 0:0:0\n2 15000000000000 C+ open 0:0:0 1:0:0\n3 30000000000000 C+ open 1:0:0 0:0:0\n",
         ),
+        (
+            "a 36-1 wheel",
+            THIRTY_SIX_WHEEL,
+            THIRTY_SIX_CAPTURE,
+            THIRTY_SIX_REPORT,
+        ),
+        (
+            "a 60-2 wheel that loses and finds",
+            SIXTY_WHEEL,
+            SIXTY_CAPTURE,
+            SIXTY_REPORT,
+        ),
     ];
     for (name, wheel, capture, report) in cases {
         check(&rt, name, (wheel, capture), (Status::Done, report, b""))?;
@@ -165,7 +181,13 @@ fn replays_say_what_the_edges_prove(rt: HostRuntime) -> Result<(), Fail> {
 fn files_are_refused_in_order(rt: HostRuntime) -> Result<(), Fail> {
     let model: &[u8] = b"wheel: refused\n";
     let capture: &[u8] = b"capture: refused\n";
-    let cases: [(&str, &[u8], &[u8], &[u8]); 8] = [
+    let cases: [(&str, &[u8], &[u8], &[u8]); 9] = [
+        (
+            "a bad level",
+            THREE_TEETH,
+            b"t,crank\n0,0\n0.001,1\n0.002,x\n",
+            capture,
+        ),
         ("both empty", b"", b"", model),
         ("no wheel, no capture", b"degrees = 361\n", b"$", model),
         ("garbage for a wheel", b"\xff\x00\x80WSYN", FOUND, model),
@@ -249,6 +271,21 @@ fn each_call_fails_in_turn(rt: HostRuntime) -> Result<(), Fail> {
             "call {call}"
         );
     }
+    // The write on notes.
+    let mut shelf = shelf_of(rt.alloc(), b"", FOUND, &[])?;
+    let mut out = MemSink::new(rt.alloc(), Vec::new(rt.alloc()));
+    let mut notes = MemSink::new(rt.alloc(), [0u64].to_vec(rt.alloc())?);
+    let all = words_of(rt.alloc(), &words)?;
+    let status = run(
+        rt.alloc(),
+        &all,
+        &mut shelf,
+        &mut out,
+        &mut notes,
+        no_taps(rt.alloc()),
+    );
+    assert_eq!(rt; status, Status::WriteFault);
+    assert_eq!(rt; notes.bytes(), b"".as_slice());
     // The writes on out: one a line.
     let mut line_starts = [0usize, 24, 61, 93, 125].iter();
     for call in 0..5u64 {

@@ -1,4 +1,4 @@
-use Rattle.std.proofs.Common.{◌≡◌, ◌∙◌, ap, false, None}
+use Rattle.std.proofs.Common.{◌∙◌, ap, false, None}
 use Rattle.std.proofs.lemmas.Result.{IfOk-weaker}
 use Rattle.csv_capture.specs.Captures.{csv_capture}
 use Rattle.wheelsync.specs.Files.{IsUsualCapture}

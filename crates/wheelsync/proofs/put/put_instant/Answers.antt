@@ -1,5 +1,5 @@
 use Rattle.wheel_types.specs.Verdicts.{AreVerdicts}
-use Rattle.std.proofs.Common.{◌≡◌, ◌∙◌, ◌∷◌, inr, List, ℕ, subst, rules}
+use Rattle.std.proofs.Common.{◌≡◌, ◌∙◌, ◌∷◌, inr, subst, rules}
 use Rattle.std.specs.Io.KnownBytes.{Appends}
 use Rattle.std.proofs.lemmas.Result.{on_ok_weaker, on_err_weaker}
 use Rattle.wheel_types.specs.Texts.{line_text}

@@ -1,4 +1,4 @@
-use Rattle.std.proofs.Common.{◌≡◌, ◌≤◌, ◌+◌, ◌∙◌, sym, subst, ap, arith, length, get_or, take, reverse}
+use Rattle.std.proofs.Common.{◌≡◌, subst, arith, length}
 use Rattle.std.proofs.lemmas.Result.{err_from_is_err_and}
 use Rattle.wheelsync.proofs.Putting.{HasPut, later_than_last, next_put, stopped, all_put}
 use Rattle.wheelsync.proofs.put.put_report.Goals as goal

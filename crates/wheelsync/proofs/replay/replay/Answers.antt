@@ -1,8 +1,9 @@
-use Rattle.std.proofs.Common.{◌∙◌, ap, Err, subst}
+use Rattle.std.proofs.Common.{◌∙◌, subst}
 use Rattle.std.proofs.lemmas.Result.{err_from_is_err_and, IfErr-weaker, on_ok_weaker, on_err_weaker}
 use Rattle.wheelsync.specs.Loading.{EndsWriting}
 use Rattle.wheelsync.specs.Causes.{RunGives}
-use Rattle.wheelsync.specs.Outputs.{GetsReport, GetsFront}
+use Rattle.wheelsync.specs.Outputs.{GetsReport}
+use Rattle.wheelsync.specs.Stepping.{GetsSteppedFront}
 use Rattle.wheelsync.proofs.Replays.{run_gives, wrote_nothing, writing_gives, wrote_report}
 use Rattle.wheelsync.proofs.replay.replay.Goals as goal
 
@@ -33,5 +34,5 @@ returns-clause-wrote g c = λ told.
     wrote_report c.put_report.result (g.S.Shelf.view c.args.shelf.now).file (g.S.Shelf.view c.load_model.new.shelf).file (c.args.model.now, c.args.capture.now) w c.in_ok-capture.capture old new
     (mid.files told) (c.in_ok-wheel.ensures.wheel told) (c.in_ok-capture.ensures.capture (mid.tells ∙ told))
     (on_ok_weaker c.put_report.result (λ all. subst (GetsReport old new w) c.as_slice.ensures (all w c.in_ok-set.ensures.stands)) c.put_report.ensures.ok)
-    (on_err_weaker c.put_report.result (λ front. subst (GetsFront old new w) c.as_slice.ensures (front w c.in_ok-set.ensures.stands)) c.put_report.ensures.err)
-    c.put_report.ensures.kinds
+    (on_err_weaker c.put_report.result (λ front. subst (GetsSteppedFront old new w) c.as_slice.ensures (front w c.in_ok-set.ensures.stands)) c.put_report.ensures.err)
+    c.put_report.ensures.kinds c.in_ok-capture.ensures.rising
