@@ -3,7 +3,7 @@
 //! `main` makes the files and streams of the system and hands them to `run`, which does all that the program does.
 #![tactic(auto)]
 
-ghost use Rattle.std.specs.Prelude.{◌≡◌, ◌⊎◌};
+ghost use Rattle.std.specs.Prelude.{◌≡◌, ◌⊎◌, []};
 
 mod capture_file;
 mod cause;
@@ -42,7 +42,7 @@ use shelf_io::{RealShelf, Sink, StdSink, write_all};
 pub use status::Status;
 use std::alloc::AllocError;
 use std::env;
-use std::io::{IsTerminal, Write};
+use std::io::{ErrorKind, IsTerminal, Write};
 use std::process::ExitCode;
 pub use tap::{Go, Tap, mark};
 pub use top::run;
@@ -51,8 +51,10 @@ pub use words::replay_words;
 
 /// The words after the program's name, or the status where there are none to be had.
 fn words_of(rt: &HostRuntime) -> Result<Vec<String>, Status> {
-    let Ok(args) = env::args(rt) else {
-        return Err(Status::Usage);
+    let args = match env::args(rt) {
+        Ok(args) => args,
+        Err(fault) if fault.kind() == ErrorKind::OutOfMemory => return Err(Status::Memory),
+        Err(_) => return Err(Status::Usage),
     };
     match args.skip(1).collect(rt.alloc()) {
         Ok(words) => Ok(words),
@@ -63,7 +65,7 @@ fn words_of(rt: &HostRuntime) -> Result<Vec<String>, Status> {
 /// Hands on what waits for standard output. Where that fails the status is a write fault, whose line comes on notes where
 /// there is none yet.
 fn close<W: Write + Drop, N: Sink>(status: Status, out: &mut StdSink<W>, notes: &mut N) -> Status
-    ensures { (result ≡ status) ⊎ (result ≡ Status.WriteFault) }
+    ensures { ((result ≡ status) × (out.new.waiting.items ≡ [])) ⊎ (result ≡ Status.WriteFault) }
 {
     if out.finish().is_ok() {
         return status;
