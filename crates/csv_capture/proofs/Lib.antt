@@ -1,11 +1,8 @@
-pub mod Instants
 pub mod Numbers
 pub mod Decimals
 pub mod Places
 pub mod RecordList
 pub mod Reading
 pub mod Keeping
-pub mod Exponents
 pub mod Rising
-pub mod RisingInstants
 pub mod BoundedTimes

@@ -1,9 +1,10 @@
 -- Numbers that digits spell.
-use Rattle.std.proofs.Common.{◌≡◌, ◌∙◌, ℕ, suc, ◌≤◌, ◌<◌, ◌+◌, ◌*◌, ◌-◌, ◌^◌, ◌==◌, ◌&&◌, Bool, true, false, List, [], ◌∷◌, ◌++◌, length, refl, ap, arith}
+use Rattle.std.proofs.Common.{◌≡◌, ◌∙◌, ℕ, zero, suc, ◌≤◌, ◌<◌, ◌+◌, ◌*◌, ◌-◌, ◌^◌, ◌==◌, ◌&&◌, Bool, true, false, List, [], ◌∷◌, ◌++◌, length, take, drop, refl, sym, ap, arith}
 use Rattle.std.specs.List.{list_all}
 use Rattle.std.proofs.Math.Nat.{pow-le-pow_right, pow-succ', add-mul, mul_assoc}
 use Rattle.std.proofs.lemmas.Nat.{mul-le}
 use Rattle.std.proofs.lemmas.Bool.Decides.{nat_tests}
+use Rattle.std.proofs.lemmas.List.{take-append-drop}
 use Rattle.std.proofs.lemmas.List.Folds.{list_all-append}
 use Rattle.csv_capture.specs.Digits.{is_zero}
 use Rattle.csv_capture.specs.Times.{are_digits, is_digit, number, number_after}
@@ -95,3 +96,32 @@ are_digits-none (d ∷ xs) ys h = absurd (suc_not_zero (length xs) h)
   where
     suc_not_zero : (n : ℕ) → (suc n == 0) ≡ true → ⊥
     suc_not_zero n e = grind (arith, nat_tests)
+
+-- what stands before and after a place in two lists
+pub take-both : (n : ℕ) (xs ys : List ℕ) → take n (xs ++ ys) ≡ take n xs ++ take (n - length xs) ys
+take-both zero xs ys = let none : 0 - length xs ≡ 0 = omega arith in rw none refl
+take-both (suc n) [] ys = let all : suc n - 0 ≡ suc n = omega arith in ap (λ (k : ℕ). take k ys) (sym all)
+take-both (suc n) (x ∷ xs) ys =
+    let less : suc n - suc (length xs) ≡ n - length xs = omega arith in
+    ap (λ (r : List ℕ). x ∷ r) (take-both n xs ys) ∙ ap (λ (k : ℕ). x ∷ take n xs ++ take k ys) (sym less)
+
+pub drop-both : (n : ℕ) (xs ys : List ℕ) → drop n (xs ++ ys) ≡ drop n xs ++ drop (n - length xs) ys
+drop-both zero xs ys = let none : 0 - length xs ≡ 0 = omega arith in rw none refl
+drop-both (suc n) [] ys = let all : suc n - 0 ≡ suc n = omega arith in ap (λ (k : ℕ). drop k ys) (sym all)
+drop-both (suc n) (x ∷ xs) ys =
+    let less : suc n - suc (length xs) ≡ n - length xs = omega arith in
+    drop-both n xs ys ∙ ap (λ (k : ℕ). drop n xs ++ drop k ys) (sym less)
+
+-- digits all, and so the first of them
+pub digits-before : (xs ys : List ℕ) → list_all is_digit (xs ++ ys) ≡ true → list_all is_digit xs ≡ true
+digits-before [] ys h = refl
+digits-before (d ∷ xs) ys h =
+    let (first, rest) = both (is_digit d) (list_all is_digit (xs ++ ys)) h in
+    rw first (digits-before xs ys rest)
+
+pub digits-take : (n : ℕ) (xs : List ℕ) → list_all is_digit xs ≡ true → list_all is_digit (take n xs) ≡ true
+digits-take n xs h = digits-before (take n xs) (drop n xs) (ap (list_all is_digit) (take-append-drop n xs) ∙ h)
+
+pub some_digits : (text : List ℕ) → are_digits text ≡ true → list_all is_digit text ≡ true
+some_digits [] h = cc h
+some_digits (b ∷ bytes) h = h

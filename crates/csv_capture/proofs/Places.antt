@@ -2,9 +2,9 @@
 use Rattle.std.proofs.Common.{◌≡◌, ◌∙◌, ◌<◌, ◌+◌, ℕ, zero, suc, true, false, List, [], ◌∷◌, ◌++◌, length, drop, Option, Some, None, Result, Err, is_some, refl, ap, arith}
 use Rattle.std.specs.Option.{option_to_list}
 use Rattle.csv.specs.Records.{field_at}
-use Rattle.csv_capture.specs.declared.capture.Column.{Column}
-use Rattle.csv_capture.specs.declared.capture.CsvFault.{CsvFault}
-use Rattle.csv_capture.specs.declared.capture.CsvFault.TheVariants.{TwoColumns}
+use Rattle.capture_core.specs.declared.capture.Column.{Column}
+use Rattle.capture_core.specs.declared.capture.CsvFault.{CsvFault}
+use Rattle.capture_core.specs.declared.capture.CsvFault.TheVariants.{TwoColumns}
 use Rattle.csv_capture.specs.Fields.{field_text, same}
 use Rattle.csv_capture.specs.Header.{only_one, places_from}
 

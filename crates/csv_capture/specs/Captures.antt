@@ -1,47 +1,21 @@
 -- The capture of a file in CSV.
-use Rattle.std.specs.Prelude.{ℕ, ◌+◌, Bool, if◌then◌else◌, ℤ, int_lt, List, [], ◌∷◌, drop, Result, Ok, Err}
+use Rattle.std.specs.Prelude.{ℕ, ◌+◌, List, [], ◌∷◌, drop, Result, Ok, Err}
 use Rattle.csv.specs.Reading.{default_config, records, strip_bom}
-use Rattle.csv_capture.specs.declared.capture.Capture.{Capture}
-use Rattle.csv_capture.specs.declared.capture.CsvFault.{CsvFault}
-use Rattle.csv_capture.specs.declared.capture.End.{End}
-use Rattle.csv_capture.specs.declared.capture.End.TheVariants.{Clean, Csv, Vcd}
-use Rattle.csv_capture.specs.declared.capture.Given.{Given}
-use Rattle.csv_capture.specs.declared.capture.Names.{Names}
-use Rattle.csv_capture.specs.declared.capture.Stamp.{Stamp}
-use Rattle.csv_capture.specs.declared.capture.Watch.{Watch}
+use Rattle.capture_core.specs.declared.capture.Capture.{Capture}
+use Rattle.capture_core.specs.declared.capture.CsvFault.{CsvFault}
+use Rattle.capture_core.specs.declared.capture.End.TheVariants.{Clean, Csv}
+use Rattle.capture_core.specs.declared.capture.Names.{Names}
+use Rattle.capture_core.specs.declared.capture.Stamp.{Stamp}
+use Rattle.capture_core.specs.declared.capture.Watch.{Watch}
 use Rattle.csv_capture.specs.declared.columns.Columns.{Columns}
 use Rattle.csv_capture.specs.Header.{columns_of}
 use Rattle.csv_capture.specs.Rows.{row_stamp}
-use Rattle.csv_capture.specs.Stamps.{nothing, over, last_time, instants_of}
+use Rattle.capture_core.specs.Captures.{Told, at_time, capture_of, with_given}
+use Rattle.capture_core.specs.Stamps.{last_time}
 
 -- the rows of a file, the header first: the records of its bytes, after one byte order mark
 abbrev pub rows_of : List ℕ → List (List (List ℕ))
 rows_of bytes = records default_config (strip_bom bytes)
-
--- stamps, the last one first, and how they end
-pub record Told : Type 0 where
-  pub stamps : List Stamp
-  pub end : End
-
--- the stamps that are closed: all of them by a clean end, and all but the last at a fault
-abbrev pub closed_stamps : End → List Stamp → List Stamp
-closed_stamps Clean stamps = stamps
-closed_stamps (Csv fault) stamps = drop 1 stamps
-closed_stamps (Vcd fault) stamps = drop 1 stamps
-
--- the instants at closed stamps, and the end
-abbrev pub capture_of : Watch → Told → Capture
-capture_of watch told = record { instants = instants_of watch (closed_stamps told.end told.stamps); end = told.end }
-
--- the stamps, with an open one of this time: a new one, where it is greater than the last
-abbrev pub at_time : ℤ → List Stamp → List Stamp
-at_time time [] = record { time = time; given = nothing } ∷ []
-at_time time (s ∷ closed) = if int_lt s.time time then record { time = time; given = nothing } ∷ s ∷ closed else s ∷ closed
-
--- the last stamp is given these levels too
-abbrev pub with_given : Given → List Stamp → List Stamp
-with_given given [] = []
-with_given given (s ∷ closed) = record { time = s.time; given = over given s.given } ∷ closed
 
 -- the stamps, with the time and the levels of one more row
 abbrev pub with_row : Stamp → List Stamp → List Stamp
@@ -53,10 +27,10 @@ told_from stamps after (Ok s) = after s
 told_from stamps after (Err fault) = record { stamps = stamps; end = Csv fault }
 
 -- what rows tell that stand after these stamps, the first of them with this number, up to the first fault
-abbrev pub after_rows : Bool → Columns → ℕ → List Stamp → List (List (List ℕ)) → Told
-after_rows exponents columns number stamps [] = record { stamps = stamps; end = Clean }
-after_rows exponents columns number stamps (row ∷ rows) =
-    told_from stamps (λ s. after_rows exponents columns (number + 1) (with_row s stamps) rows) (row_stamp exponents columns number (last_time stamps) row)
+abbrev pub after_rows : Columns → ℕ → List Stamp → List (List (List ℕ)) → Told
+after_rows columns number stamps [] = record { stamps = stamps; end = Clean }
+after_rows columns number stamps (row ∷ rows) =
+    told_from stamps (λ s. after_rows columns (number + 1) (with_row s stamps) rows) (row_stamp columns number (last_time stamps) row)
 
 -- the first of the rows, or an empty one
 abbrev pub header_of : List (List (List ℕ)) → List (List ℕ)
@@ -64,14 +38,14 @@ header_of [] = []
 header_of (row ∷ rows) = row
 
 -- what the rows below the header tell
-abbrev pub told_below : Bool → Result Columns CsvFault → List (List (List ℕ)) → Told
-told_below exponents (Err fault) rows = record { stamps = []; end = Csv fault }
-told_below exponents (Ok columns) rows = after_rows exponents columns 2 [] rows
+abbrev pub told_below : Result Columns CsvFault → List (List (List ℕ)) → Told
+told_below (Err fault) rows = record { stamps = []; end = Csv fault }
+told_below (Ok columns) rows = after_rows columns 2 [] rows
 
 -- what all rows tell
-abbrev pub told_by : Bool → Names → Watch → List (List (List ℕ)) → Told
-told_by exponents names watch rows = told_below exponents (columns_of names watch (header_of rows)) (drop 1 rows)
+abbrev pub told_by : Names → Watch → List (List (List ℕ)) → Told
+told_by names watch rows = told_below (columns_of names watch (header_of rows)) (drop 1 rows)
 
--- the capture of a file; the first argument says whether a time may have an exponent
-abbrev pub csv_capture : Bool → Names → Watch → List ℕ → Capture
-csv_capture exponents names watch bytes = capture_of watch (told_by exponents names watch (rows_of bytes))
+-- the capture of a file, whatever the names of its columns and the channels that are watched
+abbrev pub csv_capture : Names → Watch → List ℕ → Capture
+csv_capture names watch bytes = capture_of watch (told_by names watch (rows_of bytes))

@@ -2,12 +2,12 @@
 use Rattle.std.specs.Prelude.{ℕ, ◌+◌, if◌then◌else◌, List, [], ◌∷◌, Option, Some, None, Result, Ok, Err, String, string_bytes}
 use Rattle.std.specs.declared.alloc.Global.{Global}
 use Rattle.wheel_types.specs.declared.channel.Keep.{Keep}
-use Rattle.csv_capture.specs.declared.capture.Column.{Column}
-use Rattle.csv_capture.specs.declared.capture.Column.TheVariants.{Time, Crank, Cam1, Cam2}
-use Rattle.csv_capture.specs.declared.capture.CsvFault.{CsvFault}
-use Rattle.csv_capture.specs.declared.capture.CsvFault.TheVariants.{NoColumn, TwoColumns}
-use Rattle.csv_capture.specs.declared.capture.Names.{Names}
-use Rattle.csv_capture.specs.declared.capture.Watch.{Watch}
+use Rattle.capture_core.specs.declared.capture.Column.{Column}
+use Rattle.capture_core.specs.declared.capture.Column.TheVariants.{Time, Crank, Cam1, Cam2}
+use Rattle.capture_core.specs.declared.capture.CsvFault.{CsvFault}
+use Rattle.capture_core.specs.declared.capture.CsvFault.TheVariants.{NoColumn, TwoColumns}
+use Rattle.capture_core.specs.declared.capture.Names.{Names}
+use Rattle.capture_core.specs.declared.capture.Watch.{Watch}
 use Rattle.csv_capture.specs.declared.columns.Columns.{Columns}
 use Rattle.csv_capture.specs.Fields.{same, trimmed}
 

@@ -1,5 +1,3 @@
-pub mod Stamps
-pub mod LevelsOf
 pub mod Times
 pub mod Digits
 pub mod Fields

@@ -1,12 +1,12 @@
 -- What a row of a capture tells.
 use Rattle.std.specs.Prelude.{ℕ, Bool, true, false, ◌&&◌, if◌then◌else◌, ℤ, int_lt, List, Option, Some, None, is_some, Result, Ok, Err}
 use Rattle.csv.specs.Records.{field_at}
-use Rattle.csv_capture.specs.declared.capture.Column.{Column}
-use Rattle.csv_capture.specs.declared.capture.Column.TheVariants.{Crank, Cam1, Cam2}
-use Rattle.csv_capture.specs.declared.capture.CsvFault.{CsvFault}
-use Rattle.csv_capture.specs.declared.capture.CsvFault.TheVariants.{ShortRow, BadTime, TimeTooLarge, TimeTooFine, TimeFalls, BadLevel}
-use Rattle.csv_capture.specs.declared.capture.Given.{Given}
-use Rattle.csv_capture.specs.declared.capture.Stamp.{Stamp}
+use Rattle.capture_core.specs.declared.capture.Column.{Column}
+use Rattle.capture_core.specs.declared.capture.Column.TheVariants.{Crank, Cam1, Cam2}
+use Rattle.capture_core.specs.declared.capture.CsvFault.{CsvFault}
+use Rattle.capture_core.specs.declared.capture.CsvFault.TheVariants.{ShortRow, BadTime, TimeTooLarge, TimeTooFine, TimeFalls, BadLevel}
+use Rattle.capture_core.specs.declared.capture.Given.{Given}
+use Rattle.capture_core.specs.declared.capture.Stamp.{Stamp}
 use Rattle.csv_capture.specs.declared.columns.Columns.{Columns}
 use Rattle.csv_capture.specs.declared.time.TimeFault.{TimeFault}
 use Rattle.csv_capture.specs.declared.time.TimeFault.TheVariants.{Bad, TooLarge, TooFine}
@@ -66,6 +66,6 @@ stamp_of (Ok time) (Err fault) = Err fault
 stamp_of (Ok time) (Ok given) = Ok (record { time = time; given = given })
 
 -- the time and the levels that a row gives, or the first rule that it breaks
-abbrev pub row_stamp : Bool → Columns → ℕ → Option ℤ → List (List ℕ) → Result Stamp CsvFault
-row_stamp exponents columns number before row =
-    if is_whole columns row then stamp_of (row_time number before (time_of exponents (field_text row columns.time))) (row_levels number columns row) else Err (ShortRow number)
+abbrev pub row_stamp : Columns → ℕ → Option ℤ → List (List ℕ) → Result Stamp CsvFault
+row_stamp columns number before row =
+    if is_whole columns row then stamp_of (row_time number before (time_of (field_text row columns.time))) (row_levels number columns row) else Err (ShortRow number)

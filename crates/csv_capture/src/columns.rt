@@ -4,7 +4,7 @@ ghost use Rattle.csv.specs.Records.{fields_of};
 ghost use Rattle.csv_capture.specs.Header as header_words;
 
 use crate::field::field_text;
-use crate::{Column, CsvFault, Names, Watch};
+use capture_core::{Column, CsvFault, Names, Watch};
 use csv::ByteRecord;
 use wheel_types::Keep;
 

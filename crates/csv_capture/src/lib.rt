@@ -1,11 +1,10 @@
-//! Captures: levels at times, the instants of their changes, and an exact reader of captures in CSV.
+//! An exact reader of captures in CSV.
 #![tactic(auto)]
 
-mod capture;
 mod columns;
+mod digits;
 mod field;
 mod laws;
-mod levels;
 mod read;
 mod records;
 mod row;
@@ -13,10 +12,14 @@ mod rows;
 mod stamp;
 mod time;
 
-pub use capture::{Capture, Column, CsvFault, End, Given, Names, Stamp, VcdFault, Watch};
-pub use laws::{exponents_widen, stamps_rise};
-pub use levels::Levels;
+pub use laws::stamps_rise;
 pub use read::read_csv;
 
 #[cfg(test)]
+mod channel_tests;
+#[cfg(test)]
+mod fault_tests;
+#[cfg(test)]
 mod tests;
+#[cfg(test)]
+mod time_tests;

@@ -1,8 +1,9 @@
 //! The reader of captures in CSV.
 ghost use Rattle.std.specs.Prelude.{◌≡◌, ℕ, IfOk, List as Items, drop, [], ◌∷◌, ◌^◌, false};
 ghost use Rattle.wheel_types.specs.Verdicts.{IsRising, AreWithin};
-ghost use Rattle.csv_capture.specs.Captures.{after_rows, capture_of, csv_capture, rows_of};
-ghost use Rattle.csv_capture.specs.declared.capture.Watch.{Watch as AWatch};
+ghost use Rattle.capture_core.specs.Captures.{capture_of};
+ghost use Rattle.csv_capture.specs.Captures.{after_rows, csv_capture, rows_of};
+ghost use Rattle.capture_core.specs.declared.capture.Watch.{Watch as AWatch};
 ghost use Rattle.csv_capture.specs.RecordsOf.{HasRead};
 ghost use Rattle.csv_capture.specs.RowsOf.{Keeps};
 
@@ -10,14 +11,14 @@ use crate::columns::Columns;
 use crate::records::Records;
 use crate::row::row_stamp;
 use crate::rows::Rows;
-use crate::{Capture, Column, CsvFault, Names, Watch};
+use capture_core::{Capture, Column, CsvFault, Names, Watch};
 use std::alloc::Global;
 use wheel_types::Memory;
 
 /// The capture of the rows below the header.
 fn read_rows(records: &mut Records<'_>, columns: Columns, rows: Rows) -> Result<Capture, Memory>
     ensures { IfOk result (λ c. (bytes : Items ℕ) (header : Items (Items ℕ)) (watch : AWatch) → HasRead bytes (header ∷ []) records.old → Keeps watch [] rows
-        → c ≡ capture_of watch (after_rows false columns 2 [] (drop 1 (rows_of bytes)))) }
+        → c ≡ capture_of watch (after_rows columns 2 [] (drop 1 (rows_of bytes)))) }
 {
     let mut rows = rows;
     'rows: for number in 2..u64::MAX {
@@ -41,7 +42,7 @@ fn read_all(
     watch: Watch,
     rows: Rows,
 ) -> Result<Capture, Memory>
-    ensures { IfOk result (λ c. (bytes : Items ℕ) → HasRead bytes [] records.old → Keeps watch [] rows → c ≡ csv_capture false names.now watch bytes) }
+    ensures { IfOk result (λ c. (bytes : Items ℕ) → HasRead bytes [] records.old → Keeps watch [] rows → c ≡ csv_capture names.now watch bytes) }
 {
     let more = records.advance()?;
     if !more {
@@ -58,10 +59,12 @@ fn read_all(
 /// up to the first fault, and how it ends.
 ///
 /// A byte order mark at the front is skipped. The first row names the columns, and the others give a time in
-/// seconds and a level for each watched channel. Spaces and tabs around a field are dropped. A time is a decimal
-/// number without an exponent. Every fault of the file is the capture's end; the error is want of memory.
+/// seconds and a level for each watched channel. The column of times is that of its name, or the first one where
+/// none is given; the crank and each watched cam have the column of their name, and other columns are ignored.
+/// Spaces and tabs around a field are dropped. A time is a decimal number, which may have an exponent, and is read
+/// exactly. Every fault of the file is the capture's end; the error is want of memory.
 pub fn read_csv(alloc: Global, bytes: &[u8], names: &Names, watch: Watch) -> Result<Capture, Memory>
-    ensures capture { IfOk result (λ c. c ≡ csv_capture false names.now watch bytes.now) }
+    ensures capture { IfOk result (λ c. c ≡ csv_capture names.now watch bytes.now) }
     ensures rising { IfOk result (λ c. IsRising c.instants) }
     ensures within { IfOk result (λ c. AreWithin (10 ^ 24) c.instants) }
 {

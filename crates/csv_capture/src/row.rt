@@ -7,7 +7,7 @@ ghost use Rattle.csv_capture.specs.Times as times;
 use crate::columns::Columns;
 use crate::field::{field_text, level_of};
 use crate::time::{TimeFault, time_of};
-use crate::{Column, CsvFault, Given, Stamp};
+use capture_core::{Column, CsvFault, Given, Stamp};
 use csv::ByteRecord;
 
 fn has_field(row: &ByteRecord, at: usize) -> bool
@@ -48,7 +48,7 @@ fn falls(before: Option<i128>, time: i128) -> bool
 
 /// The time of the row with this number, which follows one of the time before.
 fn row_time(text: &[u8], number: u64, before: Option<i128>) -> Result<i128, CsvFault>
-    ensures { result ≡ rows.row_time number before (times.time_of false text.now) }
+    ensures { result ≡ rows.row_time number before (times.time_of text.now) }
 {
     match time_of(text) {
         Ok(time) if falls(before, time) => Err(CsvFault::TimeFalls { row: number }),
@@ -97,7 +97,7 @@ pub fn row_stamp(
     number: u64,
     before: Option<i128>,
 ) -> Result<Stamp, CsvFault>
-    ensures { result ≡ rows.row_stamp false columns number before (fields_of row.now) }
+    ensures { result ≡ rows.row_stamp columns number before (fields_of row.now) }
 {
     if !is_whole(row, columns) {
         return Err(CsvFault::ShortRow { row: number });

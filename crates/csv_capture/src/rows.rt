@@ -1,9 +1,9 @@
 //! What the rows up to here told: the levels after them, and the instants of their closed stamps.
 ghost use Rattle.std.specs.Prelude.{◌≡◌, is_some};
-ghost use Rattle.csv_capture.specs.LevelsOf.{is_open, time_of_last};
+ghost use Rattle.capture_core.specs.LevelsOf.{is_open, time_of_last};
 
 use crate::stamp::{give_all, last_instant, next_stamp, push_if};
-use crate::{Capture, CsvFault, End, Levels, Stamp, Watch};
+use capture_core::{Capture, CsvFault, End, Levels, Stamp, Watch};
 use std::alloc::{AllocError, Global};
 use wheel_types::{Instant, List};
 
@@ -17,13 +17,14 @@ pub struct Rows {
 
 impl Rows {
     ghost use Rattle.std.specs.Prelude.{◌≡◌, [], List as Items, IfOk, OnOk, true};
-    ghost use Rattle.csv_capture.specs.Captures.{capture_of, at_time, with_row};
-    ghost use Rattle.csv_capture.specs.LevelsOf.{is_open};
+    ghost use Rattle.capture_core.specs.Captures.{capture_of, at_time};
+    ghost use Rattle.csv_capture.specs.Captures.{with_row};
+    ghost use Rattle.capture_core.specs.LevelsOf.{is_open};
     ghost use Rattle.csv_capture.specs.RowsOf.{Keeps};
-    ghost use Rattle.csv_capture.specs.Stamps.{last_time};
-    ghost use Rattle.csv_capture.specs.declared.capture.Stamp.{Stamp as AStamp};
-    ghost use Rattle.csv_capture.specs.declared.capture.Watch.{Watch as AWatch};
-    ghost use Rattle.csv_capture.specs.declared.capture.End.TheVariants.{Clean, Csv};
+    ghost use Rattle.capture_core.specs.Stamps.{last_time};
+    ghost use Rattle.capture_core.specs.declared.capture.Stamp.{Stamp as AStamp};
+    ghost use Rattle.capture_core.specs.declared.capture.Watch.{Watch as AWatch};
+    ghost use Rattle.capture_core.specs.declared.capture.End.TheVariants.{Clean, Csv};
 
     /// Before the first row.
     pub fn new(alloc: Global, watch: Watch) -> Rows

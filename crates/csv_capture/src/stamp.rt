@@ -1,10 +1,10 @@
 //! Stamps, as levels go on from one to the next.
 ghost use Rattle.std.specs.Prelude.{◌≡◌, ◌<ℤ◌, List, ◌∷◌, IfSome, OnOk, true};
-ghost use Rattle.csv_capture.specs.LevelsOf.{StandsAt, StandsOpen, is_open, watched_by, time_of_last};
-ghost use Rattle.csv_capture.specs.Stamps as stamps;
-ghost use Rattle.csv_capture.specs.declared.capture.Stamp.{Stamp as AStamp};
+ghost use Rattle.capture_core.specs.LevelsOf.{StandsAt, StandsOpen, is_open, watched_by, time_of_last};
+ghost use Rattle.capture_core.specs.Stamps as stamps;
+ghost use Rattle.capture_core.specs.declared.capture.Stamp.{Stamp as AStamp};
 
-use crate::{Given, Levels};
+use capture_core::{Given, Levels};
 use std::alloc::AllocError;
 use wheel_types::{Channel, Instant};
 

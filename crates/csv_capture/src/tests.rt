@@ -1,88 +1,66 @@
-//! Whole files, with the instants and the end that they have by hand.
-use crate::{Capture, Column, CsvFault, End, Names, Watch, read_csv};
+//! Whole files with a crank channel, with the times and the end that they have by hand.
+use crate::read_csv;
+use capture_core::{Capture, Names, Watch};
 use std::alloc::{AllocError, Global};
 use std::test::Fail;
-use wheel_types::{Keep, Memory, Pol};
+use wheel_types::{Keep, Memory};
 
-const CRANK: Watch = Watch {
+/// The names of the columns that are read.
+#[derive(Clone, Copy)]
+pub struct Called {
+    pub time: Option<&'static str>,
+    pub crank: &'static str,
+    pub cam1: &'static str,
+    pub cam2: &'static str,
+}
+
+pub const USUAL: Called = Called {
+    time: None,
+    crank: "crank",
+    cam1: "cam1",
+    cam2: "cam2",
+};
+
+const BY_T: Called = Called {
+    time: Some("t"),
+    crank: "crank",
+    cam1: "cam1",
+    cam2: "cam2",
+};
+
+pub const CRANK: Watch = Watch {
     crank: Keep::Rising,
     cam1: None,
     cam2: None,
 };
 
-fn names(alloc: Global, time: Option<&str>) -> Result<Names, AllocError> {
-    let time = match time {
+fn names(alloc: Global, called: Called) -> Result<Names, AllocError> {
+    let time = match called.time {
         Some(time) => Some(String::from_str(alloc, time)?),
         None => None,
     };
     Ok(Names {
         time,
-        crank: String::from_str(alloc, "crank")?,
-        cam1: String::from_str(alloc, "cam1")?,
-        cam2: String::from_str(alloc, "cam2")?,
+        crank: String::from_str(alloc, called.crank)?,
+        cam1: String::from_str(alloc, called.cam1)?,
+        cam2: String::from_str(alloc, called.cam2)?,
     })
 }
 
-fn read(alloc: Global, bytes: &[u8], time: Option<&str>, watch: Watch) -> Result<Capture, Memory> {
-    let names = names(alloc, time)?;
+/// The capture of a file whose columns are called so.
+pub fn read(alloc: Global, bytes: &[u8], called: Called, watch: Watch) -> Result<Capture, Memory> {
+    let names = names(alloc, called)?;
     read_csv(alloc, bytes, &names, watch)
 }
 
 /// The times of the rising crank edges, and the end, as text.
-fn told(alloc: Global, bytes: &[u8], time: Option<&str>) -> Result<String, Fail> {
-    let capture = read(alloc, bytes, time, CRANK)?;
+fn told(alloc: Global, bytes: &[u8], called: Called) -> Result<String, Fail> {
+    let capture = read(alloc, bytes, called, CRANK)?;
     let mut times = Vec::new(alloc);
     for instant in capture.instants.as_slice() {
         times.push(instant.time)?;
     }
     Ok(format!(in alloc; "{:?} {:?}", times.as_slice(), capture.end)?)
-}
-
-#[test]
-fn times(rt: HostRuntime) -> Result<(), Fail> {
-    for (time, end) in [
-        ("5.", "[5000000000000000] Clean"),
-        (".5", "[500000000000000] Clean"),
-        ("-0.001", "[-1000000000000] Clean"),
-        ("+1", "[1000000000000000] Clean"),
-        ("-0", "[0] Clean"),
-        (" \t 007\t ", "[7000000000000000] Clean"),
-        ("1.000000000000001", "[1000000000000001] Clean"),
-        ("1.0000000000000000000", "[1000000000000000] Clean"),
-        (
-            "-999999999.999999999999999",
-            "[-999999999999999999999999] Clean",
-        ),
-        ("1000000000.00", "[1000000000000000000000000] Clean"),
-        ("-1000000000", "[] Clean"),
-        ("1.0000000000000001", "[] Csv(TimeTooFine { row: 3 })"),
-        (
-            "-0.00000000000000000000000009",
-            "[] Csv(TimeTooFine { row: 3 })",
-        ),
-        ("1000000000.5", "[] Csv(TimeTooLarge { row: 3 })"),
-        (
-            "-1000000000.00000000000000000001",
-            "[] Csv(TimeTooLarge { row: 3 })",
-        ),
-        (
-            "99999999999999999999999999999999999999999",
-            "[] Csv(TimeTooLarge { row: 3 })",
-        ),
-        ("", "[] Csv(BadTime { row: 3 })"),
-        (".", "[] Csv(BadTime { row: 3 })"),
-        ("-", "[] Csv(BadTime { row: 3 })"),
-        ("+-1", "[] Csv(BadTime { row: 3 })"),
-        ("1.2.3", "[] Csv(BadTime { row: 3 })"),
-        ("1 2", "[] Csv(BadTime { row: 3 })"),
-        ("1e3", "[] Csv(BadTime { row: 3 })"),
-        ("1e", "[] Csv(BadTime { row: 3 })"),
-    ] {
-        let file = format!(in rt.alloc(); "t,crank\n-1000000000,0\n{time},1\n")?;
-        let result = told(rt.alloc(), file.as_bytes(), None)?;
-        assert_eq!(rt; result.as_str(), end, "at {time}");
-    }
-    Ok(())
 }
 
 #[test]
@@ -96,9 +74,10 @@ fn files(rt: HostRuntime) -> Result<(), Fail> {
             "t,crank\n-0.001,0\n0,1\n1,0\n1000000000,1\n",
             "[0, 1000000000000000000000000] Clean",
         ),
+        // Spaces and tabs around a time, and its exponent.
         (
-            "t,crank\n-0.001,0\n0,1\n1,0\n1000000000.5,1\n",
-            "[0] Csv(TimeTooLarge { row: 5 })",
+            "t,crank\n -1e9\t,0\n \t 007E-3\t ,1\n",
+            "[7000000000000] Clean",
         ),
         // Levels.
         ("t,crank\n0,0\n1, 1\n", "[1000000000000000] Clean"),
@@ -155,7 +134,7 @@ fn files(rt: HostRuntime) -> Result<(), Fail> {
             "[] Csv(NoColumn { column: Crank })",
         ),
     ] {
-        let result = told(rt.alloc(), file.as_bytes(), None)?;
+        let result = told(rt.alloc(), file.as_bytes(), USUAL)?;
         assert_eq!(rt; result.as_str(), end, "at {file}");
     }
     Ok(())
@@ -177,55 +156,10 @@ fn columns(rt: HostRuntime) -> Result<(), Fail> {
         ),
         ("", "[] Csv(NoColumn { column: Time })"),
     ] {
-        let result = told(rt.alloc(), file.as_bytes(), Some("t"))?;
+        let result = told(rt.alloc(), file.as_bytes(), BY_T)?;
         assert_eq!(rt; result.as_str(), end, "at {file}");
     }
-    let garbage = told(rt.alloc(), b"\x00\xff\xfe,\x80\n", None)?;
+    let garbage = told(rt.alloc(), b"\x00\xff\xfe,\x80\n", USUAL)?;
     assert_eq!(rt; garbage.as_str(), "[] Csv(NoColumn { column: Crank })");
-    Ok(())
-}
-
-#[test]
-fn watches(rt: HostRuntime) -> Result<(), Fail> {
-    let all = Watch {
-        crank: Keep::Falling,
-        cam1: Some(Keep::Both),
-        cam2: Some(Keep::Rising),
-    };
-    let file = b"t,cam2,crank,cam1\n0,0,0,0\n1,0,1,1\n2,1,0,0\n3,1,1,1\n";
-    let capture = read(rt.alloc(), file, None, all)?;
-    assert_eq!(rt; capture.end, End::Clean);
-    let instants = capture.instants.as_slice();
-    assert_eq!(rt; instants.len(), 3);
-    for (instant, crank, cam1, cam2) in [
-        (instants[0], None, Some(Pol::Rise), None),
-        (
-            instants[1],
-            Some(Pol::Fall),
-            Some(Pol::Fall),
-            Some(Pol::Rise),
-        ),
-        (instants[2], None, Some(Pol::Rise), None),
-    ] {
-        assert!(rt; instant.crank == crank && instant.cam1 == cam1 && instant.cam2 == cam2);
-    }
-    for (file, fault) in [
-        (
-            "t,crank,cam1\n",
-            CsvFault::NoColumn {
-                column: Column::Cam2,
-            },
-        ),
-        (
-            "t,crank,cam1,cam2\n0,0,x,x\n",
-            CsvFault::BadLevel {
-                row: 2,
-                column: Column::Cam1,
-            },
-        ),
-    ] {
-        let refused = read(rt.alloc(), file.as_bytes(), None, all)?;
-        assert_eq!(rt; refused.end, End::Csv(fault), "at {file}");
-    }
     Ok(())
 }

@@ -1,8 +1,10 @@
 //! Times: decimal numbers of seconds, read as whole numbers of femtoseconds.
-ghost use Rattle.std.specs.Prelude.{◌≡◌, ◌≤◌, ◌<◌, ◌+◌, ◌*◌, ◌^◌, ◌++◌, false, true, length, take, drop, MatchOption, IfOk};
+ghost use Rattle.std.specs.Prelude.{◌≡◌, ◌≤◌, ◌<◌, ◌^◌, ◌++◌, true, length, IfOk};
 ghost use Rattle.std.specs.List.{list_all, position_or_len, before_first, after_first};
 ghost use Rattle.csv_capture.specs.Times as times;
 ghost use Rattle.csv_capture.specs.Digits as parts;
+
+use crate::digits::{LAST_TIME, are_digits, is_number, is_whole_at, number_to, number_within};
 
 /// Why a text gives no time.
 #[derive(Clone, Copy, Debug, PartialEq, Eq)]
@@ -15,39 +17,11 @@ pub enum TimeFault {
     TooFine,
 }
 
-/// The seconds that a time has at most.
-const MOST_SECONDS: u64 = 1_000_000_000;
-
-/// The femtoseconds of a second.
-const SECOND: u128 = 1_000_000_000_000_000;
-
 /// The decimal places that femtoseconds have.
 const PLACES: usize = 15;
 
-fn is_digit(byte: u8) -> bool
-    ensures { result ≡ times.is_digit byte }
-{
-    b'0' <= byte && byte <= b'9'
-}
-
-fn all_digits(text: &[u8]) -> bool
-    ensures { result ≡ list_all times.is_digit text.now }
-{
-    text.iter().all(|byte| is_digit(*byte))
-}
-
-/// There are one digit or more, and no other byte.
-fn are_digits(text: &[u8]) -> bool
-    ensures { result ≡ times.are_digits text.now }
-{
-    !text.is_empty() && all_digits(text)
-}
-
-fn all_zeros(text: &[u8]) -> bool
-    ensures { result ≡ list_all parts.is_zero text.now }
-{
-    text.iter().all(|byte| *byte == b'0')
-}
+/// The greatest size of an exponent.
+const LAST_EXPONENT: u128 = 9_999;
 
 /// The text begins with a minus sign.
 fn is_negative(text: &[u8]) -> bool
@@ -81,6 +55,25 @@ fn point(text: &[u8]) -> usize
     text.len()
 }
 
+/// The letter before an exponent.
+fn is_mark(byte: u8) -> bool
+    ensures { result ≡ times.is_mark byte }
+{
+    byte == b'e' || byte == b'E'
+}
+
+/// How many bytes stand before the first letter of an exponent.
+fn mark(text: &[u8]) -> usize
+    ensures { result ≡ position_or_len times.is_mark text.now }
+{
+    'bytes: for at in 0..text.len() {
+        if is_mark(text[at]) {
+            return at;
+        }
+    }
+    text.len()
+}
+
 /// The bytes before the first point, and those after it.
 fn around_point(text: &[u8]) -> (&[u8], &[u8])
     ensures whole { result.0.now ≡ before_first times.is_point text.now }
@@ -95,113 +88,87 @@ fn around_point(text: &[u8]) -> (&[u8], &[u8])
     (&text[..at], fraction)
 }
 
-/// The number that digits spell before the point, where it is at most a billion.
-#[tactic(auto, using(crate::proofs::Numbers::numbers))]
-fn whole_number(digits: &[u8]) -> Option<u64>
-    requires { list_all times.is_digit digits.now ≡ true }
-    ensures { MatchOption result (10 ^ 9 < times.number digits.now) (λ n. (n ≡ times.number digits.now) × (n ≤ 10 ^ 9)) }
+/// The exponent that a text spells.
+fn exponent_of(text: &[u8]) -> Option<i32>
+    ensures { result ≡ times.exponent_of text.now }
 {
-    let mut number = 0;
-    'digits: for digit in digits {
-        number = number * 10 + u64::from(*digit - b'0');
-        if number > MOST_SECONDS {
-            return None;
-        }
-    }
-    Some(number)
-}
-
-/// The number that few digits spell.
-fn short_number(digits: &[u8]) -> u64
-    requires digits { list_all times.is_digit digits.now ≡ true }
-    requires few { length digits.now ≤ 15 }
-    ensures { result ≡ times.number digits.now }
-{
-    let mut number = 0;
-    'digits: for digit in digits {
-        number = number * 10 + u64::from(*digit - b'0');
-    }
-    number
-}
-
-/// The femtoseconds that the digits after the point spell, where they are a whole number.
-fn fraction_of(digits: &[u8]) -> Option<u64>
-    requires { list_all times.is_digit digits.now ≡ true }
-    ensures { result ≡ parts.fraction_of (times.number digits.now) (length digits.now) }
-{
-    if digits.len() <= PLACES {
-        let missing = (PLACES - digits.len()) as u32;
-        return Some(short_number(digits) * 10_u64.pow(missing));
-    }
-    let (first, finer) = digits.split_at(PLACES);
-    if all_zeros(finer) {
-        Some(short_number(first))
-    } else {
-        None
-    }
-}
-
-/// The whole seconds that digits before and after the point spell, where they are at most a billion seconds.
-fn seconds_of(whole: &[u8], fraction: &[u8]) -> Option<u64>
-    requires whole { list_all times.is_digit whole.now ≡ true }
-    requires fraction { list_all times.is_digit fraction.now ≡ true }
-    ensures { MatchOption result (10 ^ 9 * 10 ^ length fraction.now < (parts.decimal whole.now fraction.now).digits)
-        (λ n. (n ≡ times.number whole.now) × (n ≤ 10 ^ 9) × ((parts.decimal whole.now fraction.now).digits ≤ 10 ^ 9 * 10 ^ length fraction.now)) }
-{
-    let Some(seconds) = whole_number(whole) else {
+    let digits = unsigned(text);
+    if !are_digits(digits) {
         return None;
-    };
-    if seconds < MOST_SECONDS {
-        return Some(seconds);
     }
-    if all_zeros(fraction) {
-        Some(seconds)
+    let size = number_within(0, digits, LAST_EXPONENT)? as i32;
+    if is_negative(text) {
+        Some(-size)
     } else {
-        None
+        Some(size)
     }
 }
 
-/// The femtoseconds that digits before and after the point spell.
-fn femtoseconds(whole: &[u8], fraction: &[u8]) -> Result<u128, TimeFault>
+/// The exponent in a text whose first letter of an exponent is known to stand here, if it has one.
+fn exponent_from(text: &[u8], at: usize) -> Option<i32>
+    requires { at ≡ position_or_len times.is_mark text.now }
+    ensures { result ≡ times.exponent_in text.now }
+{
+    if at < text.len() {
+        exponent_of(&text[at + 1..])
+    } else {
+        Some(0)
+    }
+}
+
+/// How many digits stand before the point, once it goes to femtoseconds and as far as the exponent says.
+fn moved_point(whole: usize, exponent: i32) -> usize
+    requires { whole < 2 ^ 63 }
+    ensures { result ≡ parts.moved_point whole exponent }
+{
+    let places = exponent.unsigned_abs() as usize;
+    if exponent < 0 {
+        (whole + PLACES).saturating_sub(places)
+    } else {
+        whole + PLACES + places
+    }
+}
+
+/// The femtoseconds of digits before and after a point, times ten to the power of the exponent.
+fn femtoseconds(whole: &[u8], fraction: &[u8], exponent: i32) -> Result<u128, TimeFault>
     requires whole { list_all times.is_digit whole.now ≡ true }
     requires fraction { list_all times.is_digit fraction.now ≡ true }
-    ensures value { result ≡ times.femtoseconds (parts.decimal whole.now fraction.now) }
-    ensures bound { IfOk result (λ n. n < 2 ^ 127) }
+    ensures value { result ≡ times.femtoseconds (times.scaled (parts.decimal whole.now fraction.now) exponent) }
+    ensures bound { IfOk result (λ n. n ≤ 10 ^ 24) }
 {
-    let Some(seconds) = seconds_of(whole, fraction) else {
+    let count = moved_point(whole.len(), exponent);
+    let Some(size) = number_to(whole, fraction, count) else {
         return Err(TimeFault::TooLarge);
     };
-    match fraction_of(fraction) {
-        Some(rest) => Ok(u128::from(seconds) * SECOND + u128::from(rest)),
-        None => Err(TimeFault::TooFine),
+    if is_whole_at(whole, fraction, count) {
+        return Ok(size);
     }
-}
-
-/// The bytes before and after a point are digits, and there is one.
-fn is_number(whole: &[u8], fraction: &[u8]) -> bool
-    ensures { result ≡ times.are_digits (whole.now ++ fraction.now) }
-{
-    if whole.is_empty() {
-        return are_digits(fraction);
+    if size < LAST_TIME {
+        Err(TimeFault::TooFine)
+    } else {
+        Err(TimeFault::TooLarge)
     }
-    all_digits(whole) && all_digits(fraction)
 }
 
 /// The femtoseconds that a text without a sign spells.
 fn size_of(text: &[u8]) -> Result<u128, TimeFault>
-    ensures value { result ≡ times.femtoseconds_if (times.decimal_of text.now) }
-    ensures bound { IfOk result (λ n. n < 2 ^ 127) }
+    ensures value { result ≡ times.femtoseconds_if (times.seconds_of text.now) }
+    ensures bound { IfOk result (λ n. n ≤ 10 ^ 24) }
 {
-    let (whole, fraction) = around_point(text);
+    let at = mark(text);
+    let (whole, fraction) = around_point(&text[..at]);
     if !is_number(whole, fraction) {
         return Err(TimeFault::Bad);
     }
-    femtoseconds(whole, fraction)
+    match exponent_from(text, at) {
+        Some(exponent) => femtoseconds(whole, fraction, exponent),
+        None => Err(TimeFault::Bad),
+    }
 }
 
 /// The number with a sign.
 fn signed(negative: bool, size: u128) -> i128
-    requires { size < 2 ^ 127 }
+    requires { size ≤ 10 ^ 24 }
     ensures { result ≡ times.signed negative size }
 {
     if negative {
@@ -211,9 +178,9 @@ fn signed(negative: bool, size: u128) -> i128
     }
 }
 
-/// The time in femtoseconds that a text spells in seconds, without an exponent.
+/// The time in femtoseconds that a text spells in seconds.
 pub fn time_of(text: &[u8]) -> Result<i128, TimeFault>
-    ensures { result ≡ times.time_of false text.now }
+    ensures { result ≡ times.time_of text.now }
 {
     match size_of(unsigned(text)) {
         Ok(size) => Ok(signed(is_negative(text), size)),

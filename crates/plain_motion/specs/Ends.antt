@@ -1,39 +1,62 @@
 -- What a window keeps, and what it stands for.
-use Rattle.std.specs.Prelude.{◌≡◌, ◌≢◌, ℕ, ◌<◌, ◌%◌, List, [], ◌∷◌, length, take, All, Contains, ◌↔◌, Option, Some, None, Bool, true, false, ⊤}
-use Rattle.wheel_types.specs.declared.channel.Channel.TheVariants.{Crank}
+use Rattle.std.specs.Prelude.{◌≡◌, ◌≢◌, ℕ, ◌<◌, IsTrue, take, List, [], ◌∷◌, All, Contains, ◌↔◌, Option, Some, None, Bool, true, false, ⊤, ℤ}
 use Rattle.wheel_types.specs.declared.place.Place.{Place}
 use Rattle.wheel_types.specs.declared.instant.Instant.{Instant}
 use Rattle.wheel_types.specs.declared.parts.WheelParts.{WheelParts}
+use Rattle.wheel_types.specs.Verdicts.{Leads, IsBefore}
+use Rattle.wheel_types.specs.Steps.{indices_of, crank_times}
+use Rattle.wheel_types.specs.PlainSteps.{is_standing}
 use Rattle.wheel_types.specs.Edges.{edge_count}
-use Rattle.wheel_types.specs.Verdicts.{EndsAt, IsBefore}
-use Rattle.wheel_types.specs.Steps.{crank_times}
-use Rattle.plain_motion.specs.Windows.{times_of, AreSmall, IsCrankPlace}
+use Rattle.wheel_types.specs.declared.channel.Channel.TheVariants.{Crank}
+use Rattle.cam_ranges.specs.Places.{IsPlace}
+use Rattle.plain_motion.specs.Windows.{times_of, AreSmall, IsTimedStep}
+use Rattle.plain_motion.specs.declared.window.Walk.{Walk}
 use Rattle.plain_motion.specs.declared.window.Window.{Window}
+
+-- the place is one of the wheel, by a test
+pub record IsTestedPlace (w : WheelParts) (p : Place) : Type 0 where
+  pub edge : p.j < edge_count w Crank
+  pub standing : IsTrue (is_standing w (indices_of p))
+
+-- these are all places of the wheel
+abbrev pub AreAllPlaces : WheelParts → List Place → Type 0
+AreAllPlaces w places = (p : Place) → Contains places p ↔ IsPlace w p
+
+-- the walk ends at a place of the wheel
+abbrev pub EndsOn : WheelParts → Walk → Type 0
+EndsOn w v = IsTestedPlace w v.end
 
 -- what a window keeps is within the wheel's bounds
 pub record IsWindowOf (w : WheelParts) (s : Window) : Type 0 where
-  pub places : All (IsCrankPlace w) s.ends
+  pub ends : All (EndsOn w) s.walks
   pub times : AreSmall s.times
-  pub count : s.count < edge_count w Crank
 
 -- there are instants
 abbrev pub some_instant : List Instant → Bool
 some_instant [] = false
 some_instant (i ∷ past) = true
 
+-- the walks are those of the motions that give the instants
+abbrev pub AreWalksOf : WheelParts → List Instant → List Walk → Type 0
+AreWalksOf w past walks = (a e : Place) → Contains walks (record { start = a; end = e }) ↔ Leads w past a e
+
 -- what a window keeps is what its instants give
 pub record Keeps (w : WheelParts) (s : Window) (past : List Instant) : Type 0 where
-  pub ends : (p : Place) → Contains s.ends p ↔ EndsAt w past p
+  pub walks : AreWalksOf w past s.walks
   pub begun : s.begun ≡ some_instant past
   pub times : times_of s.times ≡ take 2 (crank_times past)
-  pub count : s.count ≡ length (crank_times past) % edge_count w Crank
+
+-- the walk v goes on by a step at the instant, after crank edges at these times, and is then u
+pub record GoesOnTo (w : WheelParts) (times : List ℤ) (i : Instant) (v u : Walk) : Type 0 where
+  pub start : u.start ≡ v.start
+  pub step : IsTimedStep w times v.end i u.end
 
 -- a position other than the given one
 abbrev pub IsOther : Option ℕ → ℕ → Type 0
 IsOther None j = ⊤
 IsOther (Some k) j = j ≢ k
 
--- the least of the places that are at another position, if there is one
-abbrev pub IsLeastBut : List Place → Option ℕ → Option Place → Type 0
-IsLeastBut ps k None = (p : Place) → Contains ps p → IsOther k p.j → ⊥
-IsLeastBut ps k (Some p) = Contains ps p × IsOther k p.j × ((q : Place) → Contains ps q → IsOther k q.j → IsBefore p q)
+-- the walk with the least end place at another position, if there is one
+abbrev pub IsLeastBut : List Walk → Option ℕ → Option Walk → Type 0
+IsLeastBut vs k None = (v : Walk) → Contains vs v → IsOther k v.end.j → ⊥
+IsLeastBut vs k (Some v) = Contains vs v × IsOther k v.end.j × ((u : Walk) → Contains vs u → IsOther k u.end.j → IsBefore v.end u.end)

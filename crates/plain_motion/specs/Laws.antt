@@ -1,6 +1,6 @@
 -- Laws of verdicts, start places and end places.
 use Rattle.std.specs.Prelude.{◌≡◌, ◌<◌, List, ◌∷◌, reverse, ◌↔◌}
-use Rattle.wheel_types.specs.declared.channel.Channel.TheVariants.{Crank, Cam1, Cam2}
+use Rattle.wheel_types.specs.declared.channel.Channel.TheVariants.{Crank}
 use Rattle.wheel_types.specs.declared.place.Place.{Place}
 use Rattle.wheel_types.specs.declared.instant.Instant.{Instant}
 use Rattle.wheel_types.specs.declared.verdict.Verdict.{Verdict}
@@ -48,6 +48,6 @@ VerdictsAreOne = (w : WheelParts) (past : List Instant) (vs us : List Verdict) (
 abbrev pub StartAndEnd : Type 0
 StartAndEnd = (w : WheelParts) (past : List Instant) → 0 < edge_count w Crank → ((a b e : Place) → Leads w past a e → Leads w past b e → a ≡ b) × ((a e f : Place) → Leads w past a e → Leads w past a f → e ≡ f) × ((a e : Place) → Leads w past a e → a ≡ start_of w past e)
 
--- on a wheel without kept cam edges, instants whose times rise have verdicts
+-- on every wheel, instants whose times rise have verdicts
 abbrev pub VerdictsExist : Type 0
-VerdictsExist = (w : WheelParts) (is : List Instant) → IsWheel w → edge_count w Cam1 ≡ 0 → edge_count w Cam2 ≡ 0 → IsRising is → (vs : List Verdict) × ((window : List Instant) × AreVerdicts w (reverse is) vs window)
+VerdictsExist = (w : WheelParts) (is : List Instant) → IsWheel w → IsRising is → (vs : List Verdict) × ((window : List Instant) × AreVerdicts w (reverse is) vs window)

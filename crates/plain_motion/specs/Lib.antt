@@ -1,4 +1,4 @@
-pub mod EdgeTables
+pub mod Passes
 pub mod Windows
 pub mod Ends
 pub mod Memories

@@ -4,6 +4,7 @@ use Rattle.wheel_types.specs.declared.instant.Instant.{Instant}
 use Rattle.wheel_types.specs.declared.verdict.Verdict.{Verdict}
 use Rattle.wheel_types.specs.declared.parts.WheelParts.{WheelParts}
 use Rattle.plain_motion.specs.declared.set.PlainSet.{PlainSet}
+use Rattle.plain_motion.specs.Ends.{AreAllPlaces}
 use Rattle.plain_motion.specs.Memories.{Remembers}
 
 -- the time of the last instant
@@ -12,8 +13,9 @@ last_of s = s.last
 
 -- the wheel whose instants it takes
 abbrev pub wheel_of : PlainSet → WheelParts
-wheel_of s = s.wheel.parts
+wheel_of s = s.motions.wheel.parts
 
--- what the set keeps is what these instants give, and these are their verdicts
+-- the set has all places of its wheel, what it keeps is what these instants give, and these are their verdicts
 pub record StandsFor (s : PlainSet) (past : List Instant) (verdicts : List Verdict) : Type 0 where
-  pub kept : Remembers s.wheel.parts s.window s.last past verdicts
+  pub places : AreAllPlaces s.motions.wheel.parts s.places
+  pub kept : Remembers s.motions.wheel.parts s.window s.last past verdicts

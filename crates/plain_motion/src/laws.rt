@@ -31,7 +31,7 @@ pub fn start_and_end()
     ensures { StartAndEnd }
 {}
 
-/// On a wheel without kept cam edges, instants whose times rise have verdicts.
+/// On every wheel, instants whose times rise have verdicts.
 pub fn verdicts_exist()
     ensures { VerdictsExist }
 {}

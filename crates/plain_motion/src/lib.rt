@@ -1,20 +1,22 @@
-//! Sets of places, stepped once for each instant: what the edges prove about an engine whose cams are not watched.
+//! Sets of places, stepped once for each instant: what the edges prove about an engine's position.
 #![tactic(auto)]
 
 mod bounds;
-mod crank;
-mod edges;
+mod gaps;
 mod laws;
 mod least;
+mod motions;
+mod passes;
 mod set;
 #[cfg(test)]
 mod tests;
 mod window;
+mod windows;
 
 pub use bounds::{ratio_ok, speed_ok};
-pub use edges::{Edges, find_edges};
+pub use cam_ranges::PlaceFault;
 pub use laws::{
     ends_are_steps, one_kind, one_verdict, one_window, start_and_end, verdicts_are_one,
     verdicts_exist,
 };
-pub use set::{PlaceFault, PlainSet};
+pub use set::PlainSet;

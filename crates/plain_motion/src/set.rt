@@ -1,67 +1,56 @@
 //! The plain set: end places, instant by instant.
-ghost use Rattle.std.specs.Prelude.{◌≡◌, [], ◌∷◌, List as Items, Some, None, IfSome, IfOk, IfErr, OnOk, OnErr, ◌<ℤ◌};
-ghost use Rattle.wheel_types.specs.Edges.{edge_count};
+ghost use Rattle.std.specs.Prelude.{◌≡◌, [], ◌∷◌, List as Items, All, Some, None, IfSome, IfOk, IfErr, OnOk, OnErr, MatchOption, ◌<ℤ◌};
+ghost use Rattle.wheel_types.specs.Steps.{IsLegalStep};
 ghost use Rattle.wheel_types.specs.declared.instant.Instant.{Instant as Moment};
+ghost use Rattle.wheel_types.specs.declared.place.Place.{Place as Spot};
 ghost use Rattle.wheel_types.specs.declared.verdict.Verdict.{Verdict as Judgement};
-ghost use Rattle.plain_motion.specs.declared.set.PlaceFault.TheVariants.{Memory as WantsMemory};
-ghost use Rattle.plain_motion.specs.EdgeTables.{AreEdgesOf};
+ghost use Rattle.edge_angles.specs.EdgeTables.{AreEdgesOf};
+ghost use Rattle.cam_ranges.specs.Places.{IsPlace, HasTooMany};
 ghost use Rattle.plain_motion.specs.Windows.{IsSmall};
-ghost use Rattle.plain_motion.specs.Ends.{IsWindowOf};
+ghost use Rattle.plain_motion.specs.Ends.{IsTestedPlace, AreAllPlaces, IsWindowOf};
 ghost use Rattle.plain_motion.specs.Memories.{BeginsAfter, Remembers};
 
-use crate::crank::CrankWheel;
-use crate::edges::Edges;
+use crate::motions::Motions;
 use crate::window::Window;
+use cam_ranges::{PlaceFault, all_places};
+use edge_angles::Edges;
 use std::alloc::Global;
-use wheel_types::{Channel, Instant, Memory, Verdict, Wheel};
+use wheel_types::{Instant, List, Memory, Place, Verdict, Wheel};
 
-/// Why a set of places is refused.
-#[derive(Clone, Copy, Debug, PartialEq, Eq)]
-pub enum PlaceFault {
-    /// The wheel has more than 16,384 places. A wheel without kept cam edges never has.
-    TooMany,
-    Memory,
-}
-
-impl From<Memory> for PlaceFault {
-    ghost from_gives = { λ _ fault. fault ≡ WantsMemory };
-
-    fn from(_: Memory) -> Self {
-        PlaceFault::Memory
-    }
-}
-
-/// The places at which motions can end that give the instants so far, for a wheel without kept cam edges.
+/// The places at which motions can end that give the instants so far, each with the place where they began.
 #[derive(Drop)]
 pub struct PlainSet {
     alloc: Global,
-    wheel: CrankWheel,
+    motions: Motions,
+    places: List<Place>,
     window: Window,
     last: Option<i128>,
-    pub ghost fits: { IsWindowOf wheel.parts window },
+    pub ghost stand: { All (IsTestedPlace motions.wheel.parts) places },
+    pub ghost fits: { IsWindowOf motions.wheel.parts window },
 }
 
 impl PlainSet {
     ghost use Rattle.plain_motion.specs.Sets.{StandsFor, last_of, wheel_of};
 
-    /// The set before the first instant. It asks a wheel without kept cam edges, and that wheel's edges.
+    /// The set before the first instant. It asks the wheel's edges.
     ///
     /// # Errors
-    /// Want of memory; a wheel without kept cam edges has at most 4,096 places.
+    /// `TooMany` where the wheel has more than 16,384 places; want of memory.
     pub fn new(alloc: Global, wheel: &Wheel, edges: &Edges) -> Result<PlainSet, PlaceFault>
         requires edges { AreEdgesOf wheel.now.parts edges.now }
-        requires no_cam1 { edge_count wheel.now.parts Channel.Cam1 ≡ 0 }
-        requires no_cam2 { edge_count wheel.now.parts Channel.Cam2 ≡ 0 }
         ensures stands { IfOk result (λ set. StandsFor set [] []) }
         ensures wheel { IfOk result (λ set. wheel_of set ≡ wheel.now.parts) }
         ensures last { IfOk result (λ set. last_of set ≡ None) }
-        ensures few { IfErr result (λ fault. fault ≡ PlaceFault.Memory) }
+        ensures few { OnOk result (¬ HasTooMany wheel.now.parts) }
+        ensures many { IfErr result (λ fault. fault ≡ PlaceFault.TooMany → HasTooMany wheel.now.parts) }
     {
-        let wheel = CrankWheel::of(alloc, wheel, edges)?;
-        let window = wheel.new_window(alloc)?;
+        let places = List::from_vec(all_places(alloc, wheel, edges)?);
+        let motions = Motions::of(alloc, wheel, edges)?;
+        let window = motions.new_window(alloc, places.as_slice())?;
         Ok(PlainSet {
             alloc,
-            wheel,
+            motions,
+            places,
             window,
             last: None,
         })
@@ -93,15 +82,28 @@ impl PlainSet {
         Ok(verdict)
     }
 
+    /// The end place of the one legal step of a place at an instant that would be the next, if it has one. It asks a
+    /// time above the last instant's, at most 10^24 femtoseconds in size. It takes no memory.
+    pub fn legal(&self, from: Place, instant: &Instant) -> Option<Place>
+        requires place { IsPlace (wheel_of self.now) from }
+        requires later { IfSome (last_of self.now) (λ t. t <ℤ instant.now.time) }
+        requires time { IsSmall instant.now.time }
+        ensures { (past : Items Moment) (verdicts : Items Judgement) (set : StandsFor self.now past verdicts) → MatchOption result ((q : Spot) → ¬ IsLegalStep (wheel_of self.now) set.kept.window from instant.now q) (λ q. IsLegalStep (wheel_of self.now) set.kept.window from instant.now q) }
+    {
+        self.motions.legal(self.window.times, from, instant)
+    }
+
     /// The window that the next instant comes into, and the verdict of this one.
     fn stepped(&self, instant: &Instant) -> Result<(Window, Verdict), Memory>
         requires later { IfSome (last_of self.now) (λ t. t <ℤ instant.now.time) }
         requires time { IsSmall instant.now.time }
-        ensures fits { IfOk result (λ after. IsWindowOf self.now.wheel.parts after.0) }
-        ensures stands { IfOk result (λ after. (past : Items Moment) (verdicts : Items Judgement) → StandsFor self.now past verdicts → Remembers self.now.wheel.parts after.0 (Some instant.now.time) (instant.now ∷ past) (after.1 ∷ verdicts)) }
+        ensures fits { IfOk result (λ after. IsWindowOf self.now.motions.wheel.parts after.0) }
+        ensures stands { IfOk result (λ after. (past : Items Moment) (verdicts : Items Judgement) → StandsFor self.now past verdicts → Remembers self.now.motions.wheel.parts after.0 (Some instant.now.time) (instant.now ∷ past) (after.1 ∷ verdicts)) }
     {
-        let next = self.wheel.window_after(self.alloc, &self.window, instant)?;
-        let verdict = self.wheel.verdict(&next);
+        let next = self
+            .motions
+            .window_after(self.alloc, &self.window, instant)?;
+        let verdict = self.motions.verdict(&next);
         match verdict {
             Verdict::Lost => Ok((self.window_from(instant)?, verdict)),
             _ => Ok((next, verdict)),
@@ -112,15 +114,15 @@ impl PlainSet {
     /// that alone is not lost; else the one that begins after it.
     fn window_from(&self, instant: &Instant) -> Result<Window, Memory>
         requires time { IsSmall instant.now.time }
-        ensures fits { IfOk result (λ window. IsWindowOf self.now.wheel.parts window) }
-        ensures begins { IfOk result (λ window. BeginsAfter self.now.wheel.parts self.now.window.begun instant.now window) }
+        ensures fits { IfOk result (λ window. IsWindowOf self.now.motions.wheel.parts window) }
+        ensures begins { IfOk result (λ window. AreAllPlaces self.now.motions.wheel.parts self.now.places → BeginsAfter self.now.motions.wheel.parts self.now.window.begun instant.now window) }
     {
-        let fresh = self.wheel.new_window(self.alloc)?;
+        let fresh = self.motions.new_window(self.alloc, self.places.as_slice())?;
         if !self.window.begun {
             return Ok(fresh);
         }
-        let alone = self.wheel.window_after(self.alloc, &fresh, instant)?;
-        match self.wheel.verdict(&alone) {
+        let alone = self.motions.window_after(self.alloc, &fresh, instant)?;
+        match self.motions.verdict(&alone) {
             Verdict::Lost => Ok(fresh),
             _ => Ok(alone),
         }

@@ -30,12 +30,18 @@ impl CrankTimes {
     }
 }
 
-/// A window: the places at which motions that give its instants can end, each once, whether it has an instant, the
-/// times of its last crank edges, and how many crank edges it has, carried by whole cycles.
+/// The place where motions begin that give a window's instants, and the place where they end.
+#[derive(Clone, Copy, Debug)]
+pub struct Walk {
+    pub start: Place,
+    pub end: Place,
+}
+
+/// A window: the walks of the motions that give its instants, each once, whether it has an instant, and the times of
+/// its last crank edges.
 #[derive(Drop)]
 pub struct Window {
-    pub ends: List<Place>,
+    pub walks: List<Walk>,
     pub begun: bool,
     pub times: CrankTimes,
-    pub count: u32,
 }

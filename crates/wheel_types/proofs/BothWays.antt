@@ -12,7 +12,7 @@ use Rattle.wheel_types.specs.declared.instant.Instant.{Instant}
 use Rattle.wheel_types.specs.declared.parts.WheelParts.{WheelParts}
 use Rattle.wheel_types.specs.Edges.{edge_count}
 use Rattle.wheel_types.specs.Motions.{Indices, Move, Event, Pass, InTime, NoneAfter, NoneAt, IsPermitted, AllKeepSpeed, AllKeepRatio, orders, events_at, events_of, events_passed, Groups, indices_after, crank_passes}
-use Rattle.wheel_types.specs.Verdicts.{place_of, EndsAt, AllEarlier}
+use Rattle.wheel_types.specs.Verdicts.{place_of, Leads, EndsAt, AllEarlier}
 use Rattle.wheel_types.specs.Steps.{Steps, indices_of, IsLegalStep, KeepsGapsIf, crank_times}
 use Rattle.wheel_types.proofs.Places.{ends_after_step}
 use Rattle.wheel_types.proofs.Forward.{motion_of, numbered, pass_at, passes-numbered, passes_by-order}
@@ -155,16 +155,19 @@ goes_on w x ix vs i past to h g early step =
       ends = made.ends;
     }
 
--- and so to each legal step of its place
-pub step_ends : (w : WheelParts) (i : Instant) (past : List Instant) (p q : Place) → 0 < edge_count w Crank → AllEarlier i.time past → EndsAt w past p → IsLegalStep w past p i q → EndsAt w (i ∷ past) q
-step_ends w i past p q h early e s =
-    let m = e.1.motion in
+-- and so to each legal step of its place, from where it began
+pub step_leads : (w : WheelParts) (i : Instant) (past : List Instant) (a p q : Place) → 0 < edge_count w Crank → AllEarlier i.time past → Leads w past a p → IsLegalStep w past p i q → Leads w (i ∷ past) a q
+step_leads w i past a p q h early l s =
+    let m = l.motion in
     let ix = indices_after m.start m.moves in
     let k = cycle_at w ix in
-    let here : shifted w k (indices_of p) ≡ ix = ap (λ r. shifted w k (indices_of r)) (sym e.1.ends) ∙ of_place w ix h in
+    let here : shifted w k (indices_of p) ≡ ix = ap (λ r. shifted w k (indices_of r)) (sym l.ends) ∙ of_place w ix h in
     let step : Steps w past ix i (shifted w k s.0) = subst (λ r. Steps w past r i (shifted w k s.0)) here (steps-later w k past (indices_of p) i s.0 h s.1) in
-    let on = goes_on w m.angle m.start m.moves i past (shifted w k s.0) e.1.permitted e.1.gives early step in
-    (e.0, record { motion = motion_of m.angle m.start on.moves; permitted = on.permitted; gives = on.gives; starts = e.1.starts; ends = ap (place_of w) (sym on.ends) ∙ place_of-shifted w k s.0 h ∙ sym s.2 })
+    let on = goes_on w m.angle m.start m.moves i past (shifted w k s.0) l.permitted l.gives early step in
+    record { motion = motion_of m.angle m.start on.moves; permitted = on.permitted; gives = on.gives; starts = l.starts; ends = ap (place_of w) (sym on.ends) ∙ place_of-shifted w k s.0 h ∙ sym s.2 }
+
+pub step_ends : (w : WheelParts) (i : Instant) (past : List Instant) (p q : Place) → 0 < edge_count w Crank → AllEarlier i.time past → EndsAt w past p → IsLegalStep w past p i q → EndsAt w (i ∷ past) q
+step_ends w i past p q h early e s = (e.0, step_leads w i past e.0 p q h early e.1 s)
 
 -- motions that give one more instant end at exactly the legal steps of where they ended before
 pub ends_are_steps : (w : WheelParts) (i : Instant) (past : List Instant) (q : Place) → 0 < edge_count w Crank → AllEarlier i.time past → EndsAt w (i ∷ past) q ↔ ((p : Place) × EndsAt w past p × IsLegalStep w past p i q)

@@ -16,6 +16,18 @@ pub struct Instant {
     pub ghost some_edge: { IsTrue (is_some crank || (is_some cam1 || is_some cam2)) },
 }
 
+impl Default for Instant {
+    /// A rising crank edge at time 0.
+    fn default() -> Instant {
+        Instant {
+            time: 0,
+            crank: Some(Pol::Rise),
+            cam1: None,
+            cam2: None,
+        }
+    }
+}
+
 /// Which channels have an edge in an instant, and of which polarity: a number from 1 to 26, which is
 /// `c + 3 * a + 9 * b` where c, a and b are 0 for no edge, 1 for a rising and 2 for a falling one on the crank,
 /// the first and the second cam.

@@ -4,7 +4,8 @@ ghost use Rattle.wheel_types.specs.Edges.{slot_count, edge_count, change, kept};
 ghost use Rattle.wheel_types.specs.Faults.{BreaksFirst};
 ghost use Rattle.wheel_types.specs.Wheels.{IsWheel};
 
-use crate::{Channel, Keep, WheelFault, WheelParts};
+use crate::{Channel, Keep, List, Memory, WheelFault, WheelParts};
+use std::alloc::Global;
 
 /// A wheel: parts within the limits, with at least one kept crank edge.
 #[derive(Debug, Drop)]
@@ -30,6 +31,18 @@ impl Wheel {
         Ok(Wheel { parts })
     }
 
+    /// The same wheel once more.
+    ///
+    /// # Errors
+    /// Want of memory.
+    pub fn copied(&self, alloc: Global) -> Result<Wheel, Memory>
+        ensures { IfOk result (λ copy. copy.parts ≡ self.now.parts) }
+    {
+        Ok(Wheel {
+            parts: copied_parts(alloc, &self.parts)?,
+        })
+    }
+
     /// What the wheel is made of.
     pub fn parts(&self) -> &WheelParts
         ensures { result.now ≡ self.now.parts }
@@ -47,6 +60,27 @@ impl Wheel {
             Channel::Cam2 => self.parts.cam2,
         }
     }
+}
+
+/// The same parts once more.
+fn copied_parts(alloc: Global, parts: &WheelParts) -> Result<WheelParts, Memory>
+    ensures { IfOk result (λ copy. copy ≡ parts.now) }
+{
+    Ok(WheelParts {
+        degrees: parts.degrees,
+        slots: List::from_slice(alloc, parts.slots.as_slice())?,
+        crank: parts.crank,
+        cam1: parts.cam1,
+        cam2: parts.cam2,
+        cam1_early: parts.cam1_early,
+        cam1_late: parts.cam1_late,
+        cam2_early: parts.cam2_early,
+        cam2_late: parts.cam2_late,
+        rpm_low: parts.rpm_low,
+        rpm_high: parts.rpm_high,
+        rn: parts.rn,
+        rd: parts.rd,
+    })
 }
 
 /// Whether the parts keep every rule of a wheel, or which they break first.

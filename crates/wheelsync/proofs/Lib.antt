@@ -1,10 +1,5 @@
-pub mod Gathered
-pub mod Names
-pub mod PlainParts
-pub mod Determined
-pub mod Literals
-pub mod PlainWheels
-pub mod UsualNames
+pub mod FileNames
+pub mod DumpCaptures
 pub mod Sayings
 pub mod OneReport
 pub mod Reports

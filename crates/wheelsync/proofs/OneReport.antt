@@ -6,12 +6,12 @@ use Rattle.wheel_types.specs.declared.channel.Channel.TheVariants.{Crank}
 use Rattle.wheel_types.specs.Edges.{edge_count}
 use Rattle.wheel_types.specs.Texts.{report_text}
 use Rattle.wheel_types.proofs.Determined.{verdicts_determined}
-use Rattle.csv_capture.specs.declared.capture.Capture.{Capture}
-use Rattle.wheelsync.specs.Files.{IsAccepted}
+use Rattle.capture_core.specs.declared.capture.Capture.{Capture}
+use Rattle.wheelsync.specs.Files.{IsCapture}
 use Rattle.wheelsync.specs.Headline.{IsReport}
 use Rattle.wheelsync.specs.Laws.{OneReport}
-use Rattle.wheelsync.proofs.Determined.{plain_parts_one}
-use Rattle.wheelsync.proofs.UsualNames.{one_capture}
+use Rattle.wheel_pattern.proofs.OneMeaning.{one_wheel}
+use Rattle.wheelsync.proofs.FileNames.{one_capture}
 use Rattle.wheelsync.proofs.Sayings.{are_verdicts}
 
 -- the instants determine their report
@@ -23,9 +23,9 @@ one_text w is text other some r q =
     r.nothing_else ∙ ap (λ vs. report_text 1 is (reverse vs)) same.0 ∙ sym q.nothing_else
 
 pub one_report : OneReport
-one_report model bytes w v c d text other file file_too a b r q =
-    let wheel : v ≡ w = plain_parts_one model v w file_too file in
-    let here : IsAccepted w bytes d = subst (λ u. IsAccepted u bytes d) wheel b in
-    let capture : d ≡ c = one_capture w bytes d c here.read a.read in
+one_report model bytes o w v c d text other file file_too a b r q =
+    let wheel : v ≡ w = one_wheel model v w file_too file in
+    let here : IsCapture w o bytes d = subst (λ u. IsCapture u o bytes d) wheel b in
+    let capture : d ≡ c = one_capture w o bytes d c here a in
     let report : IsReport w d.instants other = subst (λ u. IsReport u d.instants other) wheel q in
-    one_text w c.instants text other file.means.wheel.crank_edge r (subst (λ (k : Capture). IsReport w k.instants other) capture report)
+    one_text w c.instants text other file.wheel.crank_edge r (subst (λ (k : Capture). IsReport w k.instants other) capture report)

@@ -10,9 +10,7 @@ use Rattle.wheel_types.specs.Verdicts.{AreVerdicts, IsRising}
 use Rattle.wheel_types.specs.Wheels.{IsWheel}
 use Rattle.wheel_types.proofs.Determined.{verdicts_determined}
 use Rattle.wheel_types.proofs.RisingTimes.{rises_to-reverse}
-use Rattle.plain_motion.proofs.CrankPlaces.{crank_only}
 use Rattle.plain_motion.proofs.Existing.{verdicts_exist}
-use Rattle.wheelsync.specs.Files.{HasNoCam}
 use Rattle.wheelsync.specs.Outputs.{AppendsPrefix, GetsFront}
 use Rattle.wheelsync.specs.Stepping.{GetsSteppedFront}
 use Rattle.wheelsync.proofs.Reports.{one_each}
@@ -52,9 +50,9 @@ prefix-append old new text rest (k, (within, grown)) =
     (k, (omega (arith, size, within), subst (Appends old new) (sym (take-append-le k text rest within)) grown))
 
 -- what was written of the first instants is a prefix of the whole report
-pub front_of_whole : (w : WheelParts) (is : List Instant) (old new : Option (List ℕ)) → IsWheel w → HasNoCam w → IsRising is → GetsSteppedFront old new w is → GetsFront old new w is
-front_of_whole w is old new wheel none rising (k, (text, (within, (r, grown)))) =
-    let whole = verdicts_exist w (crank_only w wheel none.cam1 none.cam2) (reverse is) (rises_to-reverse is rising) in
+pub front_of_whole : (w : WheelParts) (is : List Instant) (old new : Option (List ℕ)) → IsWheel w → IsRising is → GetsSteppedFront old new w is → GetsFront old new w is
+front_of_whole w is old new wheel rising (k, (text, (within, (r, grown)))) =
+    let whole = verdicts_exist w wheel (reverse is) (rises_to-reverse is rising) in
     let parts : reverse is ≡ reverse (drop k is) ++ reverse (take k is) = ap reverse (sym (take-append-drop k is)) ∙ reverse-append (take k is) (drop k is) in
     let s = split_verdicts w (reverse (drop k is)) (reverse (take k is)) whole.verdicts whole.window (subst (λ l. AreVerdicts w l whole.verdicts whole.window) parts whole.are) in
     let here = are_verdicts w (reverse (take k is)) r.verdicts r.windows r.next r.resets r.printed in

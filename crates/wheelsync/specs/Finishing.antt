@@ -6,12 +6,13 @@ use Rattle.wheelsync.specs.declared.cause.Cause.{Cause}
 use Rattle.wheelsync.specs.declared.status.Status.{Status}
 use Rattle.wheelsync.specs.declared.status.Status.TheVariants as status
 use Rattle.wheelsync.specs.Outputs.{AppendsPrefix}
-use Rattle.wheelsync.specs.Ending.{note_of, status_of}
+use Rattle.wheelsync.specs.Ending.{status_for}
+use Rattle.wheelsync.specs.Notes.{note_of}
 
 -- the line of the cause was written, or its front, where a write on notes failed or wanted memory
 abbrev pub HasNoted : Type 0 → Option (List ℕ) → Option (List ℕ) → Cause → Status → Type 0
 HasNoted rose old new e s =
-    ((s ≡ status_of {T = Unit {0}} (Err e)) × Appends old new (note_of e))
+    ((s ≡ status_for e) × Appends old new (note_of e))
     ⊎ (((s ≡ status.WriteFault) × (rose × AppendsPrefix old new (note_of e)))
     ⊎ ((s ≡ status.Memory) × AppendsPrefix old new (note_of e)))
 

@@ -1,6 +1,8 @@
 -- What calls keep that open files and read them.
 use Rattle.std.specs.Prelude.{◌≡◌, ◌≤◌, ◌⊎◌, IsTrue}
 use Rattle.shelf_io.specs.Shelf.{View}
+use Rattle.wheel_pattern.specs.declared.fault.PatternFault.{PatternFault}
+use Rattle.wheel_pattern.specs.declared.fault.TableFault.{TableFault}
 use Rattle.wheelsync.specs.declared.cause.Cause.{Cause}
 use Rattle.wheelsync.specs.declared.cause.Cause.TheVariants as cause
 
@@ -18,11 +20,11 @@ EndsLoading e = (e ≡ cause.ReadFault) ⊎ ((e ≡ cause.FileLimit) ⊎ (e ≡ 
 
 -- the causes with which reading a model can end
 abbrev pub EndsModel : Cause → Type 0
-EndsModel e = (e ≡ cause.Model) ⊎ EndsLoading e
+EndsModel e = ((fault : PatternFault) × (e ≡ cause.Wheel fault)) ⊎ EndsLoading e
 
--- the causes with which reading a capture can end
-abbrev pub EndsCapture : Cause → Type 0
-EndsCapture e = (e ≡ cause.Capture) ⊎ EndsLoading e
+-- the causes with which reading a table can end
+abbrev pub EndsTable : Cause → Type 0
+EndsTable e = ((fault : TableFault) × (e ≡ cause.Table fault)) ⊎ EndsLoading e
 
 -- the causes with which writing can end
 abbrev pub EndsWriting : Cause → Type 0

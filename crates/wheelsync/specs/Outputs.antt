@@ -1,11 +1,17 @@
 -- What a run leaves on out and on notes.
-use Rattle.std.specs.Prelude.{ℕ, ◌≤◌, ◌⊎◌, List, length, take}
+use Rattle.std.specs.Prelude.{◌≢◌, ℕ, ◌≤◌, ◌⊎◌, List, length, take}
 use Rattle.std.specs.declared.option.Option.{Option}
 use Rattle.std.specs.Io.KnownBytes.{Appends, Keeps}
 use Rattle.wheel_types.specs.declared.parts.WheelParts.{WheelParts}
 use Rattle.wheel_types.specs.declared.instant.Instant.{Instant}
-use Rattle.csv_capture.specs.declared.capture.Capture.{Capture}
-use Rattle.wheelsync.specs.Files.{AreAccepted}
+use Rattle.wheel_pattern.specs.declared.fault.PatternFault.{PatternFault}
+use Rattle.capture_core.specs.declared.capture.Capture.{Capture}
+use Rattle.capture_core.specs.declared.capture.End.TheVariants.{Clean}
+use Rattle.wheelsync.specs.declared.cause.Cause.TheVariants as cause
+use Rattle.wheelsync.specs.Causes.{ModelGives}
+use Rattle.wheelsync.specs.Files.{AreRead, AreAccepted, HasTable}
+use Rattle.wheelsync.specs.Slots.{slots_text}
+use Rattle.wheelsync.specs.Words.{Order, Replay, Import}
 use Rattle.wheelsync.specs.Headline.{IsReport}
 
 -- told bytes grow by a prefix of the text
@@ -20,10 +26,20 @@ GetsReport old new w instants = (text : List ℕ) × (IsReport w instants text �
 abbrev pub GetsFront : Option (List ℕ) → Option (List ℕ) → WheelParts → List Instant → Type 0
 GetsFront old new w instants = (text : List ℕ) × (IsReport w instants text × AppendsPrefix old new text)
 
--- the report of accepted files
-abbrev pub GetsWhole : (List ℕ → Option (List ℕ)) → List ℕ × List ℕ → Option (List ℕ) → Option (List ℕ) → Type 0
-GetsWhole file names old new = (w : WheelParts) × ((capture : Capture) × (AreAccepted file names w capture × GetsReport old new w capture.instants))
+-- all that the order writes: the report of accepted files, or the line of a table's slots
+abbrev pub GetsWhole : (List ℕ → Option (List ℕ)) → Order → Option (List ℕ) → Option (List ℕ) → Type 0
+GetsWhole file (Replay model capture_name o) old new = (w : WheelParts) × ((capture : Capture) × (AreAccepted file model capture_name o w capture × GetsReport old new w capture.instants))
+GetsWhole file (Import source name) old new = (slots : List ℕ) × (HasTable file source name slots × Appends old new (slots_text slots))
 
--- nothing, or a prefix of the report of accepted files
-abbrev pub GetsSome : (List ℕ → Option (List ℕ)) → List ℕ × List ℕ → Option (List ℕ) → Option (List ℕ) → Type 0
-GetsSome file names old new = Keeps old new ⊎ ((w : WheelParts) × ((capture : Capture) × (AreAccepted file names w capture × GetsFront old new w capture.instants)))
+-- what the order writes before a file is refused: nothing where the model or the source is, and the report of the instants before
+-- the fault where the capture is
+abbrev pub GetsRefused : (List ℕ → Option (List ℕ)) → Order → Option (List ℕ) → Option (List ℕ) → Type 0
+GetsRefused file (Replay model capture_name o) old new =
+    ((fault : PatternFault) × (ModelGives file model (cause.Wheel fault) × Keeps old new))
+    ⊎ ((w : WheelParts) × ((capture : Capture) × (AreRead file model capture_name o w capture × ((capture.end ≢ Clean) × GetsReport old new w capture.instants))))
+GetsRefused file (Import source name) old new = Keeps old new
+
+-- nothing, or a prefix of what the order writes; the report is that of the capture's instants, however it ends
+abbrev pub GetsSome : (List ℕ → Option (List ℕ)) → Order → Option (List ℕ) → Option (List ℕ) → Type 0
+GetsSome file (Replay model capture_name o) old new = Keeps old new ⊎ ((w : WheelParts) × ((capture : Capture) × (AreRead file model capture_name o w capture × GetsFront old new w capture.instants)))
+GetsSome file (Import source name) old new = Keeps old new ⊎ ((slots : List ℕ) × (HasTable file source name slots × AppendsPrefix old new (slots_text slots)))

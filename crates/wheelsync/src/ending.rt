@@ -1,27 +1,12 @@
 //! The end of a run: its line on notes and its status.
-ghost use Rattle.std.specs.Prelude.{◌≡◌, ◌≤◌, ◌⊎◌, IfErr, IfOk, OnOk, Err};
-ghost use Rattle.std.specs.Io.KnownBytes.{Appends, Keeps};
+ghost use Rattle.std.specs.Prelude.{◌≡◌, ◌≤◌};
 ghost use Rattle.shelf_io.specs.Count.{Rose};
-ghost use Rattle.wheelsync.specs.Ending.{note_of, status_of, NotesGet};
+ghost use Rattle.wheelsync.specs.Ending.{status_of};
 ghost use Rattle.wheelsync.specs.Finishing.{HasFinished};
 
+use crate::note::note;
 use crate::{Cause, Status};
 use shelf_io::{PutFault, Sink, write_all};
-
-/// The line of a cause.
-fn note(cause: Cause) -> &'static [u8]
-    ensures { result.now ≡ note_of cause }
-{
-    match cause {
-        Cause::Usage => b"usage\n",
-        Cause::Model => b"wheel: refused\n",
-        Cause::Capture => b"capture: refused\n",
-        Cause::ReadFault => b"read fault\n",
-        Cause::WriteFault => b"write fault\n",
-        Cause::Memory => b"want of memory\n",
-        Cause::FileLimit => b"limit: file\n",
-    }
-}
 
 /// The status of an end.
 fn status(end: &Result<(), Cause>) -> Status
@@ -30,8 +15,11 @@ fn status(end: &Result<(), Cause>) -> Status
     match end {
         Ok(()) => Status::Done,
         Err(Cause::Usage) => Status::Usage,
-        Err(Cause::Model) => Status::Refused,
-        Err(Cause::Capture) => Status::Refused,
+        Err(Cause::Wheel(_)) => Status::Refused,
+        Err(Cause::TooManyPlaces) => Status::Limit,
+        Err(Cause::Table(_)) => Status::Refused,
+        Err(Cause::Csv(_)) => Status::Refused,
+        Err(Cause::Vcd(_)) => Status::Refused,
         Err(Cause::ReadFault) => Status::ReadFault,
         Err(Cause::WriteFault) => Status::WriteFault,
         Err(Cause::Memory) => Status::Memory,
@@ -49,7 +37,8 @@ pub fn finish<N: Sink>(end: Result<(), Cause>, notes: &mut N) -> Status
     let Err(cause) = end else {
         return was;
     };
-    match write_all(notes, note(cause)) {
+    let line = note(cause);
+    match write_all(notes, line.as_str().as_bytes()) {
         Ok(()) => was,
         Err(PutFault::Failed { .. }) => Status::WriteFault,
         Err(PutFault::Memory { .. }) => Status::Memory,

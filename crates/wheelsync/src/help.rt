@@ -1,14 +1,20 @@
 //! The answers to `--help` and `--version`, which come before any command.
 
-const HELP: &[u8] = b"wheelsync: what the edges of a crank wheel prove about an engine's position
+const HELP: &[u8] =
+    b"wheelsync: what the edges of crank and cam wheels prove about an engine's position
 
-    wheelsync replay MODEL CAPTURE    replay a capture of edges over a wheel
+    wheelsync replay MODEL CAPTURE [--time NAME] [--crank NAME] [--cam1 NAME] [--cam2 NAME]
+                                      replay a capture of edges over a wheel
+    wheelsync import SOURCE NAME      print the slots of a C source's table
     wheelsync --help                  this page
     wheelsync --version               the version
 
-MODEL is a wheel file (TOML): degrees, slots, rpm_low, rpm_high, ratio.
-CAPTURE is a CSV file: a header with a column `crank`, and rows of a time in
-seconds and a level, 0 or 1. The first column holds the times.
+MODEL is a wheel file (TOML): degrees and slots, or teeth and missing, with
+rpm_low, rpm_high, ratio, and where wanted kept polarities and the cams' phasing.
+CAPTURE is a CSV file: a header, and rows of a time in seconds and levels, 0 or 1.
+The times stand in the first column, the levels in those named crank, cam1, cam2;
+options give other names. A cam is watched where the wheel has a kept edge on it,
+or where its option is given.
 
 For each instant one line comes on standard output:
 
@@ -16,11 +22,11 @@ For each instant one line comes on standard output:
     INDEX TIME SHAPE open A B         two motions, from places A and B, end apart
     INDEX TIME SHAPE lost             no permitted motion is left; a new window begins
 
-TIME is in femtoseconds, SHAPE is C+ or C-, a place is j:n1:n2.
+TIME is in femtoseconds, SHAPE joins C, 1 and 2 with + or -, a place is j:n1:n2.
 
 The status is 0 done, 1 a file is refused, 2 no such command, 3 a read failed,
-4 a write failed, 5 want of memory, 6 a file has more than 268435456 bytes. A
-line on standard error names the cause.
+4 a write failed, 5 want of memory, 6 a file has more than 268435456 bytes or the
+wheel more than 16384 places. A line on standard error names the cause.
 
     $ wheelsync replay examples/three-teeth.toml examples/three-teeth.csv
     1 0 C+ open 2:0:0 0:0:0

@@ -7,36 +7,36 @@ ghost use Rattle.std.specs.Prelude.{◌≡◌, ◌⊎◌, []};
 
 mod capture_file;
 mod cause;
+mod commands;
 mod ending;
+#[cfg(test)]
+mod example_dumps;
 #[cfg(test)]
 mod example_files;
 mod help;
-mod keys;
+mod import;
 mod laws;
 mod load;
-mod numbers;
+mod note;
+mod options;
 mod put;
 mod replay;
 mod report;
+mod spoken;
 mod status;
 mod tap;
 #[cfg(test)]
 mod tests;
 mod top;
-mod wheel_file;
-#[cfg(test)]
-mod wheel_file_tests;
 mod words;
 
-pub use capture_file::accept_capture;
+pub use capture_file::read_capture;
 pub use cause::Cause;
+pub use commands::serve;
 pub use ending::finish;
 use help::answer;
-pub use keys::{Key, PatternFault};
 pub use laws::one_report;
-pub use load::{load_capture, load_model};
 pub use put::put_report;
-pub use replay::serve;
 pub use report::report_line;
 use shelf_io::{RealShelf, Sink, StdSink, write_all};
 pub use status::Status;
@@ -46,8 +46,6 @@ use std::io::{ErrorKind, IsTerminal, Write};
 use std::process::ExitCode;
 pub use tap::{Go, Tap, mark};
 pub use top::run;
-pub use wheel_file::{ModelFault, read_wheel_file};
-pub use words::replay_words;
 
 /// The words after the program's name, or the status where there are none to be had.
 fn words_of(rt: &HostRuntime) -> Result<Vec<String>, Status> {

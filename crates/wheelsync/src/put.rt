@@ -18,7 +18,7 @@ use std::alloc::Global;
 use wheel_types::{Instant, Memory, Report};
 
 /// Writes a whole text.
-fn put<O: Sink>(out: &mut O, text: &[u8]) -> Result<(), Cause>
+pub fn put<O: Sink>(out: &mut O, text: &[u8]) -> Result<(), Cause>
     ensures later { O.faults out.old ≤ O.faults out.new }
     ensures ok { OnOk result (Appends (O.taken out.old) (O.taken out.new) text.now) }
     ensures err { OnErr result (AppendsPrefix (O.taken out.old) (O.taken out.new) text.now) }

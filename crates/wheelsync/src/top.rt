@@ -1,10 +1,10 @@
 //! The top call.
-ghost use Rattle.std.specs.Prelude.{◌≡◌, ◌≤◌, ◌⊎◌, map, string_bytes, IsTrue, IfSome, None};
+ghost use Rattle.std.specs.Prelude.{◌≡◌, ◌≤◌, ◌⊎◌, map, string_bytes, IsTrue, IfSome, None, ⊤};
 ghost use Rattle.shelf_io.specs.Count.{Rose};
 ghost use Rattle.wheelsync.specs.Words.{command_of};
 ghost use Rattle.wheelsync.specs.Loading.{LoadsOn};
-ghost use Rattle.wheelsync.specs.Causes.{IsMissing};
-ghost use Rattle.wheelsync.specs.Ending.{Ends, OutGets, OutKeeps, NotesGet};
+ghost use Rattle.wheelsync.specs.Causes.{RunGives, IsMissing};
+ghost use Rattle.wheelsync.specs.Ending.{OutGets, OutKeeps, NotesGet};
 ghost use Rattle.wheelsync.specs.Complete.{AreReady};
 
 use crate::{Status, Tap, finish, serve};
@@ -13,8 +13,11 @@ use std::alloc::Global;
 
 /// Serves the words after the program's name, and gives the status with which the program ends.
 ///
-/// `replay MODEL CAPTURE` reads a wheel file and a capture, and writes a report line for each instant of the capture on `out`. On
-/// `notes` comes one line, where the status is not `Done`. The taps are dropped untouched.
+/// `replay MODEL CAPTURE` reads a wheel file and a capture, and writes a report line for each instant of the capture on `out`. A
+/// capture is a value change dump where its first byte past white space is a dollar sign, and else CSV. Where it has a fault, `out`
+/// has the lines of the instants whose stamps closed before it, `notes` has the fault's line, and the status is `Refused`.
+/// `import SOURCE NAME` reads a C source, and writes the slots of its table of that name as a line of a wheel file. On `notes` comes
+/// one line, where the status is not `Done`. The taps are dropped untouched.
 pub fn run<S: Shelf, O: Sink, N: Sink>(
     alloc: Global,
     words: &[String],
@@ -35,20 +38,20 @@ pub fn run<S: Shelf, O: Sink, N: Sink>(
     ensures missing { IsTrue (S.view shelf.old).tells → IsTrue (S.view shelf.old).steady → result ≡ Status.ReadFault →
         IfSome (command_of (map string_bytes words.now)) (IsMissing (S.view shelf.old).file) }
 
-    // Where files are told, every other end is the first cause, in the order in which the files are read.
+    // Where files are told, the line on notes is that of the first cause, in the order in which the files are read.
     ensures ends { IsTrue (S.view shelf.old).tells → IfSome (command_of (map string_bytes words.now))
-        (λ names. Ends (S.view shelf.old).file names (N.taken notes.old) (N.taken notes.new) result) }
+        (λ order. NotesGet (RunGives (S.view shelf.old).file order) (Rose (O.faults out.old) (O.faults out.new)) (Rose (N.faults notes.old) (N.faults notes.new)) (N.taken notes.old) (N.taken notes.new) result) }
 
     // What out and notes get.
     ensures report { IsTrue (S.view shelf.old).tells → IfSome (command_of (map string_bytes words.now))
-        (λ names. OutGets (S.view shelf.old).file names (O.taken out.old) (O.taken out.new) result) }
-    ensures quiet { OutKeeps (O.taken out.old) (O.taken out.new) result }
-    ensures notes { NotesGet (Rose (N.faults notes.old) (N.faults notes.new)) (N.taken notes.old) (N.taken notes.new) result }
+        (λ order. OutGets (S.view shelf.old).file order (O.taken out.old) (O.taken out.new) result) }
+    ensures quiet { OutKeeps (command_of (map string_bytes words.now)) (O.taken out.old) (O.taken out.new) result }
+    ensures notes { NotesGet (λ e. ⊤) (Rose (O.faults out.old) (O.faults out.new)) (Rose (N.faults notes.old) (N.faults notes.new)) (N.taken notes.old) (N.taken notes.new) result }
 
     // Accepted files over a steady shelf, with sinks whose counts do not rise, give Done or want of memory.
     ensures complete { IsTrue (S.view shelf.old).tells → IsTrue (S.view shelf.old).steady
         → (¬ Rose (O.faults out.old) (O.faults out.new)) → (¬ Rose (N.faults notes.old) (N.faults notes.new))
-        → IfSome (command_of (map string_bytes words.now)) (λ names. AreReady (S.view shelf.old).file names → (result ≡ Status.Done) ⊎ (result ≡ Status.Memory)) }
+        → IfSome (command_of (map string_bytes words.now)) (λ order. AreReady (S.view shelf.old).file order → (result ≡ Status.Done) ⊎ (result ≡ Status.Memory)) }
 {
     let end = serve(alloc, words, shelf, out);
     drop(taps);

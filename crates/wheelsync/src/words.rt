@@ -1,33 +1,77 @@
 //! The words of a command.
 ghost use Rattle.std.specs.Prelude.{◌≡◌, map, string_bytes};
 ghost use Rattle.std.specs.Option.{option_map};
-ghost use Rattle.wheelsync.specs.Words.{command_of, is_name};
+ghost use Rattle.wheelsync.specs.Words.{command_of, replay_by, import_by, order_of};
 
-/// Whether a word names a file: it is not empty, and no option.
-fn is_file_name(word: &str) -> bool
-    ensures { result ≡ is_name word.now }
+use crate::options::Options;
+use crate::spoken::{hear, is_operand};
+
+/// A command with its operands and options.
+#[derive(Clone, Copy, Debug)]
+pub enum Command<'a> {
+    /// Replays a capture over a model.
+    Replay {
+        model: &'a str,
+        capture: &'a str,
+        options: Options<'a>,
+    },
+    /// Prints the slots of a C source's table.
+    Import {
+        source: &'a str,
+        name: &'a str,
+    },
+}
+
+/// The replay that its words give.
+fn read_replay(words: &[String]) -> Option<Command<'_>>
+    ensures { option_map order_of result ≡ replay_by (map string_bytes words.now) }
 {
-    match word.as_bytes() {
-        [] => false,
-        [_] => true,
-        [first, second, ..] => !(*first == b'-' && *second == b'-'),
+    let spoken = match hear(words) {
+        Some(spoken) => spoken,
+        None => return None,
+    };
+    match (spoken.model, spoken.capture, spoken.wants) {
+        (Some(model), Some(capture), None) => {
+            if model == capture {
+                return None;
+            }
+            Some(Command::Replay {
+                model,
+                capture,
+                options: spoken.options,
+            })
+        }
+        _ => None,
     }
 }
 
-/// The model and the capture that the words `replay MODEL CAPTURE` name, or nothing where they are no command.
-pub fn replay_words(words: &[String]) -> Option<(&str, &str)>
-    ensures { option_map (λ names. (names.0.now, names.1.now)) result ≡ command_of (map string_bytes words.now) }
+/// The import that its words give.
+fn read_import(words: &[String]) -> Option<Command<'_>>
+    ensures { option_map order_of result ≡ import_by (map string_bytes words.now) }
 {
-    let [command, model, capture] = words else {
+    let [source, name] = words else {
         return None;
     };
-    let (model, capture) = (model.as_str(), capture.as_str());
-    if command.as_str() == "replay"
-        && is_file_name(model)
-        && is_file_name(capture)
-        && model != capture
-    {
-        Some((model, capture))
+    let (source, name) = (source.as_str(), name.as_str());
+    if is_operand(source) && is_operand(name) {
+        Some(Command::Import { source, name })
+    } else {
+        None
+    }
+}
+
+/// The command that the words give, or nothing where they are none.
+pub fn read_command(words: &[String]) -> Option<Command<'_>>
+    ensures { option_map order_of result ≡ command_of (map string_bytes words.now) }
+{
+    let Some((command, operands)) = words.split_first() else {
+        return None;
+    };
+    let command = command.as_str();
+    if command == "replay" {
+        read_replay(operands)
+    } else if command == "import" {
+        read_import(operands)
     } else {
         None
     }

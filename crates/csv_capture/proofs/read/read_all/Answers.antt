@@ -1,5 +1,5 @@
 use Rattle.std.proofs.Common.{◌∙◌, [], ◌∷◌, sym, ap}
-use Rattle.csv_capture.specs.Captures.{capture_of}
+use Rattle.capture_core.specs.Captures.{capture_of}
 use Rattle.csv_capture.specs.Header.{columns_of}
 use Rattle.csv_capture.specs.RecordsOf.{row_of}
 use Rattle.csv_capture.proofs.Keeping.{if_ok, told_none, told_refused, told_rows}

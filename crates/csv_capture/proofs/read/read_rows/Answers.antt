@@ -1,6 +1,7 @@
 use Rattle.std.proofs.Common.{◌∙◌, [], ◌∷◌, ◌++◌, refl, sym, ap}
 use Rattle.csv_capture.specs.RecordsOf.{row_of}
-use Rattle.csv_capture.specs.Captures.{capture_of, with_row}
+use Rattle.capture_core.specs.Captures.{capture_of}
+use Rattle.csv_capture.specs.Captures.{with_row}
 use Rattle.csv_capture.proofs.Keeping.{walks_clean, walks_on, walks_refused}
 use Rattle.csv_capture.proofs.Reading.{stands_front}
 use Rattle.csv_capture.proofs.read.read_rows.Goals as goal

@@ -1,22 +1,34 @@
-use Rattle.std.proofs.Common.{◌≡◌, ◌∙◌, ℕ, ◌+◌, ◌*◌, ◌^◌, Ok, length, sym, ap, arith}
-use Rattle.csv_capture.specs.Times.{number}
-use Rattle.csv_capture.proofs.Numbers.{number-append}
-use Rattle.csv_capture.proofs.Decimals.{femtoseconds-parts, after_seconds}
+use Rattle.std.proofs.Common.{true, false, sym, refl, arith, rules}
+use Rattle.csv_capture.proofs.Decimals.{femtoseconds-exact, femtoseconds-fine, femtoseconds-large, femtoseconds-over, parts_known}
 use Rattle.csv_capture.proofs.time.femtoseconds.Goals as goal
 
-pub returns-in-Some-fraction_of-clause-value : goal.returns-in-Some-fraction_of-clause-value
-returns-in-Some-fraction_of-clause-value c =
+pub returns-in_default-clause-value : goal.returns-in_default-clause-value
+returns-in_default-clause-value c =
     let whole = c.args.whole.now in
     let fraction = c.args.fraction.now in
-    let (value, bound, few) = c.in-Some.ensures in
-    let all = femtoseconds-parts _ (number whole) (number fraction) (length fraction) (number-append whole fraction) few in
-    let sum : c.from.result * 10 ^ 15 + c.from-in-Some-fraction_of.result ≡ number whole * 10 ^ 15 + c.in-Some-fraction_of.rest = omega (arith, value, c.from.ensures, c.from-in-Some-fraction_of.ensures) in
-    ap (λ (x : ℕ). Ok x) sum ∙ sym (all ∙ ap (after_seconds (number whole)) (sym c.fraction_of.ensures ∙ c.in-Some-fraction_of.is))
+    let parts = parts_known whole fraction c.args.exponent _ _ _ c.requires.whole c.requires.fraction (search rules) refl refl in
+    sym (femtoseconds-large _ _ _ parts c.in_default.ensures)
 
-pub returns-in-None-clause-value : goal.returns-in-None-clause-value
-returns-in-None-clause-value c =
+pub returns-then-is_whole_at-clause-value : goal.returns-then-is_whole_at-clause-value
+returns-then-is_whole_at-clause-value c =
     let whole = c.args.whole.now in
     let fraction = c.args.fraction.now in
-    let (value, bound, few) = c.in-Some.ensures in
-    let all = femtoseconds-parts _ (number whole) (number fraction) (length fraction) (number-append whole fraction) few in
-    sym (all ∙ ap (after_seconds (number whole)) (sym c.fraction_of.ensures ∙ c.in-None.is))
+    let (value, bound) = c.in-Some.ensures in
+    let parts = parts_known whole fraction c.args.exponent c.moved_point-count.result c.in-Some.size true c.requires.whole c.requires.fraction (search rules) value c.if-is_whole_at.ensures in
+    sym (femtoseconds-exact _ _ parts bound)
+
+pub returns-then-size-lt-LAST_TIME-clause-value : goal.returns-then-size-lt-LAST_TIME-clause-value
+returns-then-size-lt-LAST_TIME-clause-value c =
+    let whole = c.args.whole.now in
+    let fraction = c.args.fraction.now in
+    let (value, bound) = c.in-Some.ensures in
+    let parts = parts_known whole fraction c.args.exponent c.moved_point-count.result c.in-Some.size false c.requires.whole c.requires.fraction (search rules) value c.if-is_whole_at.ensures in
+    sym (femtoseconds-fine _ _ parts c.if-size-lt-LAST_TIME.true)
+
+pub returns-else-size-lt-LAST_TIME-clause-value : goal.returns-else-size-lt-LAST_TIME-clause-value
+returns-else-size-lt-LAST_TIME-clause-value c =
+    let whole = c.args.whole.now in
+    let fraction = c.args.fraction.now in
+    let (value, bound) = c.in-Some.ensures in
+    let parts = parts_known whole fraction c.args.exponent c.moved_point-count.result c.in-Some.size false c.requires.whole c.requires.fraction (search rules) value c.if-is_whole_at.ensures in
+    sym (femtoseconds-over _ _ parts (omega (arith, bound, c.if-size-lt-LAST_TIME.false)))

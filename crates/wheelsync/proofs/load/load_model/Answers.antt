@@ -1,11 +1,12 @@
-use Rattle.std.proofs.Common.{sym, subst, ap, Err}
-use Rattle.wheelsync.specs.PlainFile.{IsPlainWheelFile}
-use Rattle.wheelsync.proofs.PlainWheels.{plain_has_no_cam}
+use Rattle.std.proofs.Common.{subst}
+use Rattle.wheel_pattern.specs.WheelFile.{HasFault}
 use Rattle.wheelsync.proofs.load.load_model.Goals as goal
 
-pub returns-in-Err-Refused-clause-gives : goal.returns-in-Err-Refused-clause-gives
-returns-in-Err-Refused-clause-gives g c = λ told.
-    (c.in_ok-bytes.bytes.items, (c.in_ok-bytes.ensures.holds told, λ w file. c.in-Err-Refused.ensures.refused (ap Err c.in-Err-Refused.field-0-is) w (subst (λ bytes. IsPlainWheelFile bytes w) (sym c.deref.ensures.value) file)))
-
-pub returns-in-Ok-clause-no_cam : goal.returns-in-Ok-clause-no_cam
-returns-in-Ok-clause-no_cam g c = plain_has_no_cam _ _ c.in-Ok.ensures.ok
+pub returns-clause-gives : goal.returns-clause-gives
+returns-clause-gives g c = λ told. (
+  c.in_ok-bytes.bytes.items,
+  (
+    c.in_ok-bytes.ensures.holds told,
+    subst (λ bytes. HasFault bytes c.in-Err.fault) c.deref.ensures.value (c.in-Err.ensures.fault (λ is. let same = rw is at c.if-eq.ensures in absurd (cc))),
+  ),
+)

@@ -1,5 +1,5 @@
 use Rattle.std.proofs.Common.{refl, sym, ◌∙◌, rules}
-use Rattle.csv_capture.proofs.Instants.{same_time}
+use Rattle.capture_core.proofs.Instants.{same_time}
 use Rattle.csv_capture.proofs.Keeping.{begun}
 use Rattle.csv_capture.proofs.rows.Rows.go_to.Goals as goal
 

@@ -1,5 +1,5 @@
 use Rattle.std.proofs.Common.{refl, rules}
-use Rattle.csv_capture.proofs.Instants.{same_time}
+use Rattle.capture_core.proofs.Instants.{same_time}
 use Rattle.csv_capture.proofs.Keeping.{taken}
 use Rattle.csv_capture.proofs.rows.Rows.take.Goals as goal
 

@@ -1,0 +1,11 @@
+pub mod AngledWalks
+pub mod NamedOnce
+pub mod FirstEdges
+pub mod Halving
+pub mod Ceilings
+pub mod StandingSpans
+pub mod Gaps
+pub mod PlacesInGaps
+pub mod SmallPlaces
+pub mod GatheredPlaces
+pub mod FewPlaces

@@ -1,0 +1,13 @@
+//! Laws of walks over places, and of the motion that a start place names.
+ghost use Rattle.cam_ranges.specs.Laws.{AngleLaw, OneNamedMotion};
+
+/// Angles that never fall and pass channels in turn, as a motion does, exist exactly where every place of the walk
+/// stands. The least angles of these places are then such angles.
+pub fn angle_law()
+    ensures { AngleLaw }
+{}
+
+/// The start place of a permitted motion names one motion, which is permitted and gives the same instants.
+pub fn one_named_motion()
+    ensures { OneNamedMotion }
+{}

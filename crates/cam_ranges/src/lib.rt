@@ -1,0 +1,17 @@
+//! Which places of a wheel stand, and what angles have to say of walks over them.
+#![tactic(auto)]
+
+mod angles;
+mod fault;
+mod first_edges;
+mod laws;
+mod places;
+mod span;
+mod standing;
+#[cfg(test)]
+mod tests;
+
+pub use fault::PlaceFault;
+pub use laws::{angle_law, one_named_motion};
+pub use places::all_places;
+pub use standing::stands;

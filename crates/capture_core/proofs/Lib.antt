@@ -1,0 +1,6 @@
+pub mod Instants
+pub mod KeptChanges
+pub mod InstantsAt
+pub mod RisingStamps
+pub mod RisingInstants
+pub mod Bounded

@@ -1,0 +1,5 @@
+pub mod Stamps
+pub mod LevelsOf
+pub mod Captures
+pub mod Changes
+pub mod Laws

@@ -1,0 +1,13 @@
+pub mod Numbers
+pub mod Keeping
+pub mod Firsts
+pub mod Codes
+pub mod Pieces
+pub mod Steps
+pub mod GrowingStamps
+pub mod Ends
+pub mod Taken
+pub mod TokenRuns
+pub mod TokenOrder
+pub mod RisingStamps
+pub mod MoreBytes

@@ -1,0 +1,31 @@
+-- The texts of tokens, as lists of bytes.
+use Rattle.std.specs.Prelude.{ℕ, ◌+◌, ◌*◌, ◌-◌, Bool, false, ◌&&◌, ◌==◌, nat_le, nat_eq, List, [], ◌∷◌, codes}
+use Rattle.std.specs.Cmp.Lexicographic.{pointwise}
+
+abbrev pub same : List ℕ → List ℕ → Bool
+same a b = pointwise nat_eq a b
+
+-- the keyword that ends a section
+abbrev pub is_end : List ℕ → Bool
+is_end text = same text (codes "$end")
+
+-- it begins with a dollar sign
+abbrev pub is_keyword : List ℕ → Bool
+is_keyword [] = false
+is_keyword (b ∷ bytes) = b == 36
+
+abbrev pub is_digit : ℕ → Bool
+is_digit b = nat_le 48 b && nat_le b 57
+
+-- from `!` to `~`
+abbrev pub is_code_byte : ℕ → Bool
+is_code_byte b = nat_le 33 b && nat_le b 126
+
+-- the number that the digits spell after those of n
+abbrev pub number_after : ℕ → List ℕ → ℕ
+number_after n [] = n
+number_after n (d ∷ digits) = number_after (n * 10 + (d - 48)) digits
+
+-- the number that the digits spell
+abbrev pub number : List ℕ → ℕ
+number digits = number_after 0 digits

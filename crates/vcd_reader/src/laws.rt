@@ -1,0 +1,33 @@
+//! Laws of value change dumps. The functions do nothing; their contracts say the laws.
+ghost use Rattle.vcd_reader.specs.Laws.{AllAreTaken, FaultsStay, InstantsRise, InstantsStay, InstantsWithin, LastIsOpen, StampsRise, TokensAreRuns, TokensInOrder, TokensOfJoined};
+
+/// The tokens of bytes are exactly the longest runs without white space, each with its place, in the order of the
+/// bytes; the last run is open where no white space ends it.
+pub fn tokens_are_runs()
+    ensures runs { TokensAreRuns }
+    ensures in_order { TokensInOrder }
+    ensures last { LastIsOpen }
+{}
+
+/// However bytes are cut, their tokens are the same.
+pub fn tokens_of_joined()
+    ensures { TokensOfJoined }
+{}
+
+/// The times of a file's stamps and instants rise, and none is more than a billion seconds.
+pub fn times_rise()
+    ensures stamps { StampsRise }
+    ensures instants { InstantsRise }
+    ensures within { InstantsWithin }
+{}
+
+/// What a stream has brought stays when more bytes come: its instants, and its fault where it has one.
+pub fn more_bytes_change_nothing()
+    ensures instants { InstantsStay }
+    ensures fault { FaultsStay }
+{}
+
+/// The instants of a stream that a reader stands for were taken or wait.
+pub fn all_are_taken()
+    ensures { AllAreTaken }
+{}

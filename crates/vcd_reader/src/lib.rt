@@ -1,0 +1,32 @@
+//! Value change dumps, read in pieces.
+#![tactic(auto)]
+
+mod bytes;
+mod changes;
+mod fault;
+mod header;
+mod laws;
+mod machine;
+mod phase;
+mod reader;
+mod section;
+mod signals;
+mod stage;
+mod stream;
+mod times;
+mod timescale;
+mod token;
+mod waiting;
+
+pub use fault::FeedFault;
+pub use laws::{
+    all_are_taken, more_bytes_change_nothing, times_rise, tokens_are_runs, tokens_of_joined,
+};
+pub use reader::VcdReader;
+
+#[cfg(test)]
+mod dump_tests;
+#[cfg(test)]
+mod header_tests;
+#[cfg(test)]
+mod tests;

@@ -1,0 +1,14 @@
+pub mod Gathered
+pub mod Names
+pub mod TurnLevels
+pub mod FileFaults
+pub mod OneMeaning
+pub mod GrownTables
+pub mod PrintedReadBack
+mod Fronts
+mod Passing
+mod Runs
+mod EntryValues
+mod EntryParts
+mod EntrySlots
+mod Pieces

@@ -1,0 +1,14 @@
+pub mod Keys
+pub mod Values
+pub mod ToothPattern
+pub mod Patterns
+pub mod Lookups
+pub mod WheelFile
+pub mod Laws
+pub mod Printed
+pub mod Tokens
+pub mod Spans
+pub mod Arrays
+pub mod Tables
+pub mod Kept
+pub mod TokenLaws
