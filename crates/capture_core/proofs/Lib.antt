@@ -1,3 +1,4 @@
+pub mod Numerals
 pub mod Instants
 pub mod KeptChanges
 pub mod InstantsAt

@@ -1,3 +1,4 @@
+pub mod Numerals
 pub mod Stamps
 pub mod LevelsOf
 pub mod Captures

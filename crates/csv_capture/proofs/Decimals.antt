@@ -8,8 +8,10 @@ use Rattle.std.proofs.lemmas.Nat.{pow-add, mul-le, div-mul-add, mod-mul-add}
 use Rattle.std.proofs.lemmas.Bool.Decides.{nat_tests}
 use Rattle.csv_capture.specs.declared.time.TimeFault.TheVariants.{TooLarge, TooFine}
 use Rattle.csv_capture.specs.Digits.{decimal, is_zero, moved_point, number_to}
-use Rattle.csv_capture.specs.Times.{femtoseconds, is_digit, number, scaled, Seconds}
-use Rattle.csv_capture.proofs.Numbers.{digits-after, number-append, number-below, number-more, number-zeros, ten-le}
+use Rattle.capture_core.specs.Numerals.{is_digit, number}
+use Rattle.csv_capture.specs.Times.{femtoseconds, scaled, Seconds}
+use Rattle.capture_core.proofs.Numerals.{number-append, number-below, ten-le}
+use Rattle.csv_capture.proofs.Numbers.{digits-after, number-more, number-zeros}
 
 pub ten_pow : (k : ℕ) → 0 < 10 ^ k
 ten_pow k = omega (arith, one-le-pow k 10 (omega arith))

@@ -1,6 +1,7 @@
 -- The digits of a time, before and after its point.
 use Rattle.std.specs.Prelude.{ℕ, suc, ◌+◌, ◌*◌, ◌-◌, ◌^◌, ℤ, pos, negsuc, Bool, ◌==◌, List, ◌++◌, take, length}
-use Rattle.csv_capture.specs.Times.{Seconds, number}
+use Rattle.capture_core.specs.Numerals.{number}
+use Rattle.csv_capture.specs.Times.{Seconds}
 
 -- the digit `0`
 abbrev pub is_zero : ℕ → Bool

@@ -1,12 +1,9 @@
 -- The time that a field spells: a decimal number of seconds, where it is a whole number of femtoseconds.
-use Rattle.std.specs.Prelude.{ℕ, suc, ◌+◌, ◌*◌, ◌-◌, ◌/◌, ◌%◌, ◌^◌, ℤ, pos, negsuc, neg_ℤ, Bool, false, ◌&&◌, ◌||◌, ◌==◌, nat_lt, nat_le, if◌then◌else◌, List, [], ◌∷◌, ◌++◌, length, Option, Some, None, Result, Ok, Err}
+use Rattle.std.specs.Prelude.{ℕ, suc, ◌*◌, ◌/◌, ◌%◌, ◌^◌, ℤ, pos, negsuc, neg_ℤ, Bool, false, ◌&&◌, ◌||◌, ◌==◌, nat_lt, nat_le, if◌then◌else◌, List, [], ◌∷◌, ◌++◌, length, Option, Some, None, Result, Ok, Err}
 use Rattle.std.specs.List.{list_all, list_any, before_first, after_first}
+use Rattle.capture_core.specs.Numerals.{is_digit, number}
 use Rattle.csv_capture.specs.declared.time.TimeFault.{TimeFault}
 use Rattle.csv_capture.specs.declared.time.TimeFault.TheVariants.{Bad, TooLarge, TooFine}
-
--- a byte from `0` to `9`
-abbrev pub is_digit : ℕ → Bool
-is_digit b = nat_le 48 b && nat_le b 57
 
 -- the decimal point
 abbrev pub is_point : ℕ → Bool
@@ -19,15 +16,6 @@ is_mark b = (b == 101) || (b == 69)
 -- a `+` or a `-`
 abbrev pub is_sign : ℕ → Bool
 is_sign b = (b == 43) || (b == 45)
-
--- the number that these digits spell after those of n
-abbrev pub number_after : ℕ → List ℕ → ℕ
-number_after n [] = n
-number_after n (d ∷ digits) = number_after (n * 10 + (d - 48)) digits
-
--- the number that digits spell
-abbrev pub number : List ℕ → ℕ
-number digits = number_after 0 digits
 
 -- one digit or more, and no other byte
 abbrev pub are_digits : List ℕ → Bool

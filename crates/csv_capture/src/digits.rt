@@ -1,26 +1,14 @@
 //! Digits, and the numbers that they spell.
 ghost use Rattle.std.specs.Prelude.{◌≡◌, ◌≤◌, ◌<◌, ◌-◌, ◌*◌, ◌^◌, ◌++◌, true, length, take, drop, MatchOption};
 ghost use Rattle.std.specs.List.{list_all};
+ghost use Rattle.capture_core.specs.Numerals as numerals;
 ghost use Rattle.csv_capture.specs.Times as times;
 ghost use Rattle.csv_capture.specs.Digits as parts;
 
-/// The greatest size of a time, in femtoseconds: a billion seconds.
-pub const LAST_TIME: u128 = 1_000_000_000_000_000_000_000_000;
+use capture_core::{LAST_TIME, all_digits, number_within};
 
-/// How many zeros that number ends in.
+/// How many zeros the greatest size of a time ends in.
 const LAST_ZEROS: usize = 24;
-
-fn is_digit(byte: u8) -> bool
-    ensures { result ≡ times.is_digit byte }
-{
-    b'0' <= byte && byte <= b'9'
-}
-
-fn all_digits(text: &[u8]) -> bool
-    ensures { result ≡ list_all times.is_digit text.now }
-{
-    text.iter().all(|byte| is_digit(*byte))
-}
 
 /// There are one digit or more, and no other byte.
 pub fn are_digits(text: &[u8]) -> bool
@@ -59,24 +47,6 @@ fn back(digits: &[u8], count: usize) -> &[u8]
     &digits[count.min(digits.len())..]
 }
 
-/// The number that digits spell after those of a first one, where it is at most `most`.
-#[tactic(auto, using(crate::proofs::Numbers::numbers))]
-pub fn number_within(first: u128, digits: &[u8], most: u128) -> Option<u128>
-    requires digits { list_all times.is_digit digits.now ≡ true }
-    requires first { first ≤ most }
-    requires most { most ≤ 10 ^ 24 }
-    ensures { MatchOption result (most < times.number_after first digits.now) (λ n. (n ≡ times.number_after first digits.now) × (n ≤ most)) }
-{
-    let mut number = first;
-    'digits: for digit in digits {
-        number = number * 10 + u128::from(*digit - b'0');
-        if number > most {
-            return None;
-        }
-    }
-    Some(number)
-}
-
 /// The number with so many zeros after it, where it is at most the last time.
 fn with_zeros(number: u128, zeros: usize) -> Option<u128>
     ensures { MatchOption result (10 ^ 24 < number * 10 ^ zeros) (λ n. (n ≡ number * 10 ^ zeros) × (n ≤ 10 ^ 24)) }
@@ -93,8 +63,8 @@ fn with_zeros(number: u128, zeros: usize) -> Option<u128>
 
 /// The number of the first so many digits, with zeros for those that are missing, where it is at most the last time.
 pub fn number_to(whole: &[u8], fraction: &[u8], count: usize) -> Option<u128>
-    requires whole { list_all times.is_digit whole.now ≡ true }
-    requires fraction { list_all times.is_digit fraction.now ≡ true }
+    requires whole { list_all numerals.is_digit whole.now ≡ true }
+    requires fraction { list_all numerals.is_digit fraction.now ≡ true }
     ensures { MatchOption result (10 ^ 24 < parts.number_to (whole.now ++ fraction.now) count) (λ n. (n ≡ parts.number_to (whole.now ++ fraction.now) count) × (n ≤ 10 ^ 24)) }
 {
     let after = count.saturating_sub(whole.len());

@@ -1,10 +1,12 @@
 //! Times: decimal numbers of seconds, read as whole numbers of femtoseconds.
 ghost use Rattle.std.specs.Prelude.{◌≡◌, ◌≤◌, ◌<◌, ◌^◌, ◌++◌, true, length, IfOk};
 ghost use Rattle.std.specs.List.{list_all, position_or_len, before_first, after_first};
+ghost use Rattle.capture_core.specs.Numerals as numerals;
 ghost use Rattle.csv_capture.specs.Times as times;
 ghost use Rattle.csv_capture.specs.Digits as parts;
 
-use crate::digits::{LAST_TIME, are_digits, is_number, is_whole_at, number_to, number_within};
+use crate::digits::{are_digits, is_number, is_whole_at, number_to};
+use capture_core::{LAST_TIME, number_within};
 
 /// Why a text gives no time.
 #[derive(Clone, Copy, Debug, PartialEq, Eq)]
@@ -131,8 +133,8 @@ fn moved_point(whole: usize, exponent: i32) -> usize
 
 /// The femtoseconds of digits before and after a point, times ten to the power of the exponent.
 fn femtoseconds(whole: &[u8], fraction: &[u8], exponent: i32) -> Result<u128, TimeFault>
-    requires whole { list_all times.is_digit whole.now ≡ true }
-    requires fraction { list_all times.is_digit fraction.now ≡ true }
+    requires whole { list_all numerals.is_digit whole.now ≡ true }
+    requires fraction { list_all numerals.is_digit fraction.now ≡ true }
     ensures value { result ≡ times.femtoseconds (times.scaled (parts.decimal whole.now fraction.now) exponent) }
     ensures bound { IfOk result (λ n. n ≤ 10 ^ 24) }
 {

@@ -1,22 +1,29 @@
 // Each shelf and each sink once through its bound, with calls that fail.
-ghost use Rattle.std.specs.Prelude.{◌<◌};
+ghost use Rattle.std.specs.Prelude.{◌≡◌, ◌<◌, IfOk, string_bytes};
 
 use crate::{
     IoFault, LoadFault, MemShelf, MemSink, PutFault, RealShelf, Shelf, Sink, StdSink, put_all,
     read_all, write_all,
 };
-use std::alloc::Global;
+use std::alloc::{AllocError, Global};
 use std::fs;
 use std::io::Write;
 use std::test::Fail;
+
+// A file for a shelf.
+fn file_of(alloc: Global, name: &str, bytes: &[u8]) -> Result<(String, Vec<u8>), AllocError>
+    ensures { IfOk result (λ file. string_bytes file.0 ≡ name.now) }
+{
+    Ok((String::from_str(alloc, name)?, bytes.to_vec(alloc)?))
+}
 
 // A shelf of the files `in` and `old`.
 fn shelf(alloc: Global, piece: usize, fails: Vec<u64>) -> Result<MemShelf, Fail>
     requires { 0 < piece }
 {
-    let first = (String::from_str(alloc, "in")?, b"abc".to_vec(alloc)?);
-    let second = (String::from_str(alloc, "old")?, b"xyz".to_vec(alloc)?);
-    let files = vec![in alloc; first, second]?;
+    let mut files = Vec::new(alloc);
+    files.push(file_of(alloc, "in", b"abc")?)?;
+    files.push(file_of(alloc, "old", b"xyz")?)?;
     Ok(MemShelf::new(alloc, files, piece, fails))
 }
 

@@ -6,7 +6,7 @@ use Rattle.capture_core.specs.declared.capture.Watch.{Watch}
 use Rattle.capture_core.specs.declared.capture.VcdFault.{VcdFault}
 use Rattle.capture_core.specs.Stamps.{instant_at, instants_of, known_after, with_last}
 use Rattle.vcd_reader.specs.declared.token.Token.{Token}
-use Rattle.vcd_reader.specs.declared.signals.Signals.{Signals}
+use Rattle.vcd_header.specs.declared.signals.Signals.{Signals}
 use Rattle.vcd_reader.specs.declared.changes.Changes.{Changes}
 use Rattle.vcd_reader.specs.declared.phase.Phase.TheVariants as phase
 use Rattle.vcd_reader.specs.Answers.{AreFirst}

@@ -4,7 +4,7 @@ use Rattle.std.proofs.lemmas.Bool.Decides.{nat_tests}
 use Rattle.std.proofs.lemmas.Grind.{common_steps}
 use native.Mathlib.Numerals.{unary_clauses}
 use Rattle.std.specs.List.{list_all}
-use Rattle.vcd_reader.specs.Values.{is_value, last_of, level_of}
+use Rattle.vcd_header.specs.Values.{is_value, last_of, level_of}
 use Rattle.vcd_reader.specs.Readings.{Body, wanting}
 use Rattle.vcd_reader.specs.Changes.{change_token, other_token, vector_token}
 

@@ -7,7 +7,7 @@ use Rattle.capture_core.specs.declared.capture.VcdFault.{VcdFault}
 use Rattle.capture_core.specs.declared.capture.Watch.{Watch}
 use Rattle.capture_core.specs.Stamps.{instants_of}
 use Rattle.capture_core.proofs.InstantsAt.{begin-alike}
-use Rattle.vcd_reader.specs.declared.signals.Signals.{Signals}
+use Rattle.vcd_header.specs.declared.signals.Signals.{Signals}
 use Rattle.vcd_reader.specs.declared.token.Token.{Token}
 use Rattle.vcd_reader.specs.Answers.{AreFirst}
 use Rattle.vcd_reader.specs.Dumps.{after_token, at_end, at_last, after_last, closed_of, fault_of, reading_of, so_far, whole, with_end}

@@ -6,9 +6,9 @@ use Rattle.wheel_types.specs.declared.channel.Channel.TheVariants.{Crank, Cam1, 
 use Rattle.capture_core.specs.declared.capture.Watch.{Watch}
 use Rattle.capture_core.specs.declared.capture.Stamp.{Stamp}
 use Rattle.capture_core.specs.Stamps.{with_last, instant_at, known_after}
-use Rattle.vcd_reader.specs.declared.signals.Signals.{Signals}
-use Rattle.vcd_reader.specs.Texts.{same}
-use Rattle.vcd_reader.specs.Values.{given_if, given_by, is_code}
+use Rattle.vcd_header.specs.declared.signals.Signals.{Signals}
+use Rattle.vcd_header.specs.Texts.{same}
+use Rattle.vcd_header.specs.Values.{given_if, given_by, is_code}
 use Rattle.vcd_reader.specs.Readings.{Body}
 use Rattle.vcd_reader.specs.Standing.{Waits}
 

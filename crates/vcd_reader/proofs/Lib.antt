@@ -1,7 +1,5 @@
-pub mod Numbers
 pub mod Keeping
 pub mod Firsts
-pub mod Codes
 pub mod Pieces
 pub mod Steps
 pub mod GrowingStamps

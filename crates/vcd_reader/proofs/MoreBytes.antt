@@ -1,15 +1,12 @@
 -- What a stream has brought stays when more bytes come.
-use Rattle.std.proofs.Common.{◌≡◌, ℕ, List, [], ◌∷◌, ◌++◌, Option, Some, None, refl, ap, sym, ◌∙◌, length, rules}
-use Rattle.wheel_types.specs.declared.instant.Instant.{Instant}
+use Rattle.std.proofs.Common.{◌≡◌, ℕ, List, [], ◌∷◌, ◌++◌, Option, Some, ap, ◌∙◌, length, rules}
 use Rattle.capture_core.specs.declared.capture.VcdFault.{VcdFault}
-use Rattle.capture_core.specs.declared.capture.Watch.{Watch}
-use Rattle.capture_core.specs.Stamps.{instants_of}
-use Rattle.vcd_reader.specs.declared.signals.Signals.{Signals}
+use Rattle.vcd_header.specs.declared.signals.Signals.{Signals}
 use Rattle.vcd_reader.specs.declared.token.Token.{Token}
-use Rattle.vcd_reader.specs.Dumps.{Outcome, after_last, after_token, at_end, capture_of, closed_of, fault_of, reading_of, so_far, whole, with_end}
+use Rattle.vcd_reader.specs.Dumps.{after_last, after_token, at_end, capture_of, closed_of, fault_of, reading_of, so_far, whole, with_end}
 use Rattle.vcd_reader.specs.Laws.{AllAreTaken, FaultsStay, InstantsStay}
 use Rattle.vcd_reader.specs.Readings.{Reading, between, inside, changes, wanting, skipping, refused}
-use Rattle.vcd_reader.specs.Signals.{wanted_by}
+use Rattle.vcd_header.specs.Signals.{wanted_by}
 use Rattle.vcd_reader.specs.Tokens.{begun, last_open}
 use Rattle.vcd_reader.proofs.GrowingStamps.{grows_twice, longer-grows, more-begin, whole-grows}
 use Rattle.vcd_reader.proofs.Pieces.{reading_of-refused}

@@ -6,7 +6,7 @@ use Rattle.std.specs.List.{fold}
 use Rattle.std.proofs.lemmas.List.Sums.{fold-append}
 use Rattle.capture_core.specs.declared.capture.VcdFault.{VcdFault}
 use Rattle.vcd_reader.specs.declared.token.Token.{Token}
-use Rattle.vcd_reader.specs.declared.signals.Signals.{Signals}
+use Rattle.vcd_header.specs.declared.signals.Signals.{Signals}
 use Rattle.vcd_reader.specs.Tokens.{ended_from, open_from, ended_by, open_after, ended, last_open, none_at, begun, with_byte, after_white}
 use Rattle.vcd_reader.specs.Readings.{Reading, between, inside, changes, wanting, skipping, refused}
 use Rattle.vcd_reader.specs.Dumps.{after_tokens, after_token, fault_of, reading_of}

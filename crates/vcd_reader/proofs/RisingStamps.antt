@@ -1,5 +1,5 @@
 -- The times of a dump's stamps rise, and are at most a billion seconds.
-use Rattle.std.proofs.Common.{◌≡◌, ℕ, ◌^◌, ◌≤◌, ℤ, ◌<ℤ◌, Bool, true, false, List, [], ◌∷◌, Option, Some, None, refl, arith}
+use Rattle.std.proofs.Common.{◌≡◌, ℕ, ◌^◌, ◌≤◌, ℤ, ◌<ℤ◌, true, false, List, [], ◌∷◌, Option, Some, None, refl, arith}
 use Rattle.std.specs.Prelude.{fold, int_lt, nat_lt, pos, unsigned_abs}
 use Rattle.std.proofs.lemmas.Int.{ints}
 use Rattle.std.proofs.lemmas.Bool.Decides.{nat_tests}
@@ -10,15 +10,15 @@ use Rattle.capture_core.specs.declared.capture.VcdFault.{VcdFault}
 use Rattle.capture_core.specs.Stamps.{IsRising, nothing}
 use Rattle.capture_core.proofs.Bounded.{AreBounded, capture-within}
 use Rattle.capture_core.proofs.RisingInstants.{capture-rises}
-use Rattle.vcd_reader.specs.declared.signals.Signals.{Signals}
+use Rattle.vcd_header.specs.declared.signals.Signals.{Signals}
 use Rattle.vcd_reader.specs.declared.token.Token.{Token}
 use Rattle.vcd_reader.specs.Dumps.{after_last, after_token, at_end, at_last, fault_of, reading_of, whole, with_end}
-use Rattle.vcd_reader.specs.Headers.{empty_header}
+use Rattle.vcd_header.specs.Headers.{empty_header}
 use Rattle.vcd_reader.specs.Laws.{InstantsRise, InstantsWithin, StampsRise}
 use Rattle.vcd_reader.specs.Readings.{Body, Reading, between, inside, changes, wanting, skipping, refused}
-use Rattle.vcd_reader.specs.Signals.{wanted_by}
+use Rattle.vcd_header.specs.Signals.{wanted_by}
 use Rattle.vcd_reader.specs.Tokens.{begun, ended, last_open}
-use Rattle.vcd_reader.specs.Values.{given_by}
+use Rattle.vcd_header.specs.Values.{given_by}
 use Rattle.vcd_reader.proofs.Steps.{HoldsAfter, HoldsBeyond, HoldsInHeader, after_text-holds}
 
 -- times rise, and none is more than a billion seconds

@@ -5,11 +5,11 @@ use Rattle.wheel_types.specs.declared.instant.Instant.{Instant}
 use Rattle.capture_core.specs.declared.capture.VcdFault.{VcdFault}
 use Rattle.capture_core.specs.declared.capture.Watch.{Watch}
 use Rattle.capture_core.specs.Stamps.{instants_of}
-use Rattle.vcd_reader.specs.declared.header.Header.{Header}
+use Rattle.vcd_header.specs.declared.header.Header.{Header}
 use Rattle.vcd_reader.specs.declared.changes.Changes.{Changes}
 use Rattle.vcd_reader.specs.declared.phase.Phase.{Phase}
 use Rattle.vcd_reader.specs.declared.phase.Phase.TheVariants as phase
-use Rattle.vcd_reader.specs.declared.signals.Signals.{Signals}
+use Rattle.vcd_header.specs.declared.signals.Signals.{Signals}
 use Rattle.vcd_reader.specs.declared.stage.Stage.{Stage}
 use Rattle.vcd_reader.specs.declared.stage.Stage.TheVariants.{Level, Inside, Past}
 use Rattle.vcd_reader.specs.declared.stream.Stream.{Stream}

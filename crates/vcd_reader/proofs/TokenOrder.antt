@@ -1,8 +1,8 @@
 -- Tokens stand in the order of the bytes, and pieces cut none.
-use Rattle.std.proofs.Common.{◌≡◌, ℕ, ◌+◌, ◌<◌, ◌≤◌, Bool, true, false, cond, List, [], ◌∷◌, ◌++◌, length, length-append, arith}
+use Rattle.std.proofs.Common.{ℕ, ◌+◌, ◌≤◌, Bool, true, false, cond, List, [], ◌∷◌, ◌++◌, length, arith}
 use Rattle.vcd_reader.specs.declared.token.Token.{Token}
 use Rattle.vcd_reader.specs.Laws.{IsInOrder, TokensInOrder, TokensOfJoined}
-use Rattle.vcd_reader.specs.Tokens.{after_white, begun, ended_from, none_at, with_byte}
+use Rattle.vcd_reader.specs.Tokens.{begun, ended_from, none_at}
 use Rattle.vcd_reader.specs.White.{is_white}
 use Rattle.vcd_reader.proofs.Pieces.{ended_from-append, open_from-append}
 

@@ -1,12 +1,12 @@
 -- The tokens of bytes are exactly the longest runs without white space.
-use Rattle.std.proofs.Common.{◌≡◌, ◌∙◌, ℕ, ◌+◌, ◌<◌, ◌≤◌, Bool, true, false, ◌&&◌, cond, List, [], ◌∷◌, ◌++◌, length, get_or, drop, refl, sym, ap, subst, ◌⊎◌, inl, inr, append_assoc, append-nil, length-append, arith, rules}
+use Rattle.std.proofs.Common.{◌≡◌, ◌∙◌, ℕ, ◌+◌, ◌≤◌, Bool, true, false, ◌&&◌, cond, List, [], ◌∷◌, ◌++◌, length, get_or, drop, refl, sym, ap, subst, ◌⊎◌, inl, inr, append_assoc, append-nil, length-append, arith, rules}
 use Rattle.std.specs.Prelude.{Contains, not}
 use Rattle.std.specs.List.{list_all}
 use Rattle.std.proofs.lemmas.List.Elements.{Contains-append_cases, Contains-append_left, Contains-append_right, Contains-push, Contains-push_cases}
 use Rattle.std.proofs.lemmas.List.Folds.{list_all-append}
 use Rattle.vcd_reader.specs.declared.token.Token.{Token}
-use Rattle.vcd_reader.specs.Laws.{IsOpen, IsToken, LastIsOpen, TokensAreRuns, is_dark, last_white}
-use Rattle.vcd_reader.specs.Tokens.{after_white, begun, ended_from, none_at, open_from, with_byte}
+use Rattle.vcd_reader.specs.Laws.{LastIsOpen, TokensAreRuns, is_dark, last_white}
+use Rattle.vcd_reader.specs.Tokens.{begun, ended_from, none_at, open_from}
 use Rattle.vcd_reader.specs.White.{is_white}
 
 abbrev run_of : List ℕ → ℕ → Token

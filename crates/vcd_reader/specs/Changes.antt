@@ -4,8 +4,9 @@ use Rattle.std.specs.List.{list_all}
 use Rattle.capture_core.specs.declared.capture.VcdFault.TheVariants.{TimeFalls, TimeTooLarge}
 use Rattle.capture_core.specs.Stamps.{nothing}
 use Rattle.vcd_reader.specs.Readings.{Body, Reading, changes, wanting, skipping, refused, bad}
-use Rattle.vcd_reader.specs.Texts.{is_code_byte, is_digit, number}
-use Rattle.vcd_reader.specs.Values.{is_value, is_idle, level_of, last_of, given_by}
+use Rattle.capture_core.specs.Numerals.{is_digit, number}
+use Rattle.vcd_header.specs.Texts.{is_code_byte}
+use Rattle.vcd_header.specs.Values.{is_value, is_idle, level_of, last_of, given_by}
 
 -- the open stamp is closed, and one of a later time is opened
 abbrev pub at_later : Body → ℕ → Body

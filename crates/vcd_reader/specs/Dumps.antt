@@ -10,13 +10,13 @@ use Rattle.capture_core.specs.declared.capture.VcdFault.{VcdFault}
 use Rattle.capture_core.specs.declared.capture.VcdFault.TheVariants.{Cut}
 use Rattle.capture_core.specs.declared.capture.Watch.{Watch}
 use Rattle.capture_core.specs.Stamps.{instants_of}
-use Rattle.vcd_reader.specs.declared.signals.Signals.{Signals}
+use Rattle.vcd_header.specs.declared.signals.Signals.{Signals}
 use Rattle.vcd_reader.specs.declared.token.Token.{Token}
 use Rattle.vcd_reader.specs.Changes.{change_token, code_token}
-use Rattle.vcd_reader.specs.Headers.{empty_header}
+use Rattle.vcd_header.specs.Headers.{empty_header}
 use Rattle.vcd_reader.specs.Readings.{Reading, between, inside, changes, wanting, skipping, refused, level_token, section_token}
-use Rattle.vcd_reader.specs.Signals.{wanted_by}
-use Rattle.vcd_reader.specs.Texts.{is_end}
+use Rattle.vcd_header.specs.Signals.{wanted_by}
+use Rattle.vcd_header.specs.Texts.{is_end}
 use Rattle.vcd_reader.specs.Tokens.{ended, last_open, begun}
 
 -- what a token with this text and place brings

@@ -3,7 +3,6 @@ use Rattle.std.specs.Prelude.{◌≡◌, ◌↔◌, ℕ, ◌+◌, ◌<◌, ◌�
 use Rattle.std.specs.List.{list_all}
 use Rattle.wheel_types.specs.declared.instant.Instant.{Instant}
 use Rattle.wheel_types.specs.Verdicts as instants
-use Rattle.capture_core.specs.declared.capture.Capture.{Capture}
 use Rattle.capture_core.specs.declared.capture.End.TheVariants.{Vcd}
 use Rattle.capture_core.specs.declared.capture.Names.{Names}
 use Rattle.capture_core.specs.declared.capture.VcdFault.{VcdFault}
@@ -13,7 +12,7 @@ use Rattle.vcd_reader.specs.declared.reader.VcdReader.{VcdReader}
 use Rattle.vcd_reader.specs.declared.token.Token.{Token}
 use Rattle.vcd_reader.specs.Dumps.{fault_so_far, instants_so_far, vcd_capture, whole}
 use Rattle.vcd_reader.specs.Readers.{StandsFor, waiting_in}
-use Rattle.vcd_reader.specs.Signals.{wanted_by}
+use Rattle.vcd_header.specs.Signals.{wanted_by}
 use Rattle.vcd_reader.specs.Tokens.{ended, ended_from, last_open, open_from}
 use Rattle.vcd_reader.specs.White.{is_white}
 

@@ -1,14 +1,8 @@
 pub mod White
 pub mod Tokens
-pub mod Texts
-pub mod Timescales
-pub mod Headers
-pub mod Signals
-pub mod Values
 pub mod Readings
 pub mod Changes
 pub mod Dumps
-pub mod Words
 pub mod Standing
 pub mod Reads
 pub mod Answers

@@ -7,7 +7,7 @@ use Rattle.capture_core.specs.Stamps.{instants_of}
 use Rattle.vcd_reader.specs.declared.reader.Progress.TheVariants.{Open, Ended, Spent}
 use Rattle.vcd_reader.specs.declared.reader.VcdReader.{VcdReader}
 use Rattle.vcd_reader.specs.Dumps.{fault_of_file, whole}
-use Rattle.vcd_reader.specs.Signals.{wanted_by}
+use Rattle.vcd_header.specs.Signals.{wanted_by}
 use Rattle.vcd_reader.specs.Streams as stream
 
 -- how many bytes it has read: at most as many as were fed

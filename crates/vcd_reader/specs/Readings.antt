@@ -4,14 +4,14 @@ use Rattle.capture_core.specs.declared.capture.Stamp.{Stamp}
 use Rattle.capture_core.specs.declared.capture.VcdFault.{VcdFault}
 use Rattle.capture_core.specs.declared.capture.VcdFault.TheVariants.{NoTimescale, BadToken}
 use Rattle.capture_core.specs.Stamps.{nothing}
-use Rattle.vcd_reader.specs.declared.header.Var.{Var}
-use Rattle.vcd_reader.specs.declared.header.Header.{Header}
-use Rattle.vcd_reader.specs.declared.section.Section.{Section}
-use Rattle.vcd_reader.specs.declared.section.Section.TheVariants as section
-use Rattle.vcd_reader.specs.declared.signals.Signals.{Signals}
-use Rattle.vcd_reader.specs.Headers.{section_begun, word_fits, with_section}
-use Rattle.vcd_reader.specs.Signals.{signals_of}
-use Rattle.vcd_reader.specs.Texts.{is_end}
+use Rattle.vcd_header.specs.declared.header.Var.{Var}
+use Rattle.vcd_header.specs.declared.header.Header.{Header}
+use Rattle.vcd_header.specs.declared.section.Section.{Section}
+use Rattle.vcd_header.specs.declared.section.Section.TheVariants as section
+use Rattle.vcd_header.specs.declared.signals.Signals.{Signals}
+use Rattle.vcd_header.specs.Headers.{section_begun, word_fits, with_section}
+use Rattle.vcd_header.specs.Signals.{signals_of}
+use Rattle.vcd_header.specs.Texts.{is_end}
 
 -- the part of the changes: femtoseconds for a unit of time, the watched codes, the closed stamps with the last first, and the
 -- open one

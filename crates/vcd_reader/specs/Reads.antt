@@ -2,14 +2,14 @@
 use Rattle.std.specs.Prelude.{◌≡◌, ◌++◌, List, [], ℕ}
 use Rattle.wheel_types.specs.declared.instant.Instant.{Instant}
 use Rattle.capture_core.specs.declared.capture.Watch.{Watch}
-use Rattle.vcd_reader.specs.declared.header.Header.{Header}
+use Rattle.vcd_header.specs.declared.header.Header.{Header}
 use Rattle.vcd_reader.specs.declared.changes.Changes.{Changes}
 use Rattle.vcd_reader.specs.declared.stage.Stage.{Stage}
 use Rattle.vcd_reader.specs.declared.stage.Stage.TheVariants.{Level, Inside, Past}
 use Rattle.vcd_reader.specs.declared.machine.Machine.{Machine}
 use Rattle.vcd_reader.specs.Readings.{Reading, between, inside}
 use Rattle.vcd_reader.specs.Standing.{Brings, IsFresh}
-use Rattle.vcd_reader.specs.Words.{kept_words}
+use Rattle.vcd_header.specs.Words.{kept_words}
 
 -- nothing has changed yet, and no instant was closed
 pub record IsEarly (watch : Watch) (handed waiting : List Instant) (c : Changes) : Type 0 where

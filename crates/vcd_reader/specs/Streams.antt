@@ -3,7 +3,7 @@ use Rattle.std.specs.Prelude.{◌≡◌, ◌≤◌, ◌++◌, Bool, if◌then◌
 use Rattle.wheel_types.specs.declared.instant.Instant.{Instant}
 use Rattle.capture_core.specs.declared.capture.Watch.{Watch}
 use Rattle.capture_core.specs.Stamps.{instants_of}
-use Rattle.vcd_reader.specs.declared.signals.Signals.{Signals}
+use Rattle.vcd_header.specs.declared.signals.Signals.{Signals}
 use Rattle.vcd_reader.specs.declared.fault.FeedFault.{FeedFault}
 use Rattle.vcd_reader.specs.declared.stream.Stream.{Stream}
 use Rattle.vcd_reader.specs.Answers.{Tells, UnlessMemory}

@@ -3,15 +3,13 @@ ghost use Rattle.std.specs.Prelude.{◌≡◌, ◌≤◌, ◌<◌, ◌<ℤ◌, �
 ghost use Rattle.capture_core.specs.declared.capture.Stamp.{Stamp as AStamp};
 ghost use Rattle.capture_core.specs.Stamps.{nothing, instant_at, known_after};
 ghost use Rattle.capture_core.specs.LevelsOf.{StandsOpen, watched_by, is_open, time_of_last};
-ghost use Rattle.vcd_reader.specs.Values.{given_if};
+ghost use Rattle.vcd_header.specs.Values.{given_if};
 
-use crate::bytes::{all_code_bytes, all_digits, is_code, is_end, is_value, level_of};
 use crate::phase::{Phase, other_token};
-use crate::signals::Signals;
-use crate::times::{signed, time_of};
 use crate::waiting::Waiting;
-use capture_core::{Levels, VcdFault, Watch};
+use capture_core::{Levels, VcdFault, Watch, all_digits};
 use std::alloc::{AllocError, Global};
+use vcd_header::{Signals, all_code_bytes, is_code, is_end, is_value, level_of, signed, time_of};
 use wheel_types::{Channel, Instant, List};
 
 /// The part of the changes.
@@ -33,7 +31,7 @@ impl Changes {
     ghost use Rattle.vcd_reader.specs.Dumps as dump;
     ghost use Rattle.vcd_reader.specs.Readings as reading;
     ghost use Rattle.vcd_reader.specs.Standing.{ForBody, Keeps, Brings, IsFresh};
-    ghost use Rattle.vcd_reader.specs.declared.signals.Signals.{Signals as ASignals};
+    ghost use Rattle.vcd_header.specs.declared.signals.Signals.{Signals as ASignals};
     ghost use Rattle.capture_core.specs.declared.capture.Watch.{Watch as AWatch};
     ghost use Rattle.capture_core.specs.Stamps.{nothing, instant_at, known_after};
     ghost use Rattle.wheel_types.specs.declared.instant.Instant.{Instant as AnInstant};

@@ -1,20 +1,14 @@
 //! Value change dumps, read in pieces.
 #![tactic(auto)]
 
-mod bytes;
 mod changes;
 mod fault;
-mod header;
 mod laws;
 mod machine;
 mod phase;
 mod reader;
-mod section;
-mod signals;
 mod stage;
 mod stream;
-mod times;
-mod timescale;
 mod token;
 mod waiting;
 

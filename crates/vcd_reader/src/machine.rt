@@ -5,16 +5,15 @@ ghost use Rattle.vcd_reader.specs.declared.phase.Phase.TheVariants.{Refused};
 ghost use Rattle.capture_core.specs.declared.capture.VcdFault.TheVariants.{BadToken};
 ghost use Rattle.vcd_reader.specs.Standing.{IsFresh};
 
-use crate::bytes::is_end;
 use crate::changes::Changes;
-use crate::header::{Header, section_begun, with_section};
 use crate::phase::Phase;
-use crate::section::{Section, keep_word, word_fits};
-use crate::signals::{Signals, signals_of};
 use crate::stage::Stage;
 use crate::waiting::Waiting;
 use capture_core::{VcdFault, Watch};
 use std::alloc::{AllocError, Global};
+use vcd_header::{
+    Header, Section, Signals, is_end, keep_word, section_begun, signals_of, with_section, word_fits,
+};
 use wheel_types::List;
 
 /// Reads a dump token after token.
@@ -36,7 +35,7 @@ fn bad(at: u64) -> Stage
 impl Machine {
     ghost use Rattle.std.specs.Prelude.{◌≡◌, ◌++◌, [], List, OnOk, OnErr};
     ghost use Rattle.vcd_reader.specs.Dumps as dump;
-    ghost use Rattle.vcd_reader.specs.Headers as headers;
+    ghost use Rattle.vcd_header.specs.Headers as headers;
     ghost use Rattle.vcd_reader.specs.Readings as reading;
     ghost use Rattle.vcd_reader.specs.Reads.{ForReading, Reads};
     ghost use Rattle.capture_core.specs.declared.capture.Watch.{Watch as AWatch};

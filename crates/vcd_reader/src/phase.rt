@@ -2,8 +2,8 @@
 ghost use Rattle.vcd_reader.specs.Changes as change;
 ghost use Rattle.vcd_reader.specs.Standing.{BringsOf};
 
-use crate::bytes::{all_values, is_idle, level_of};
 use capture_core::VcdFault;
+use vcd_header::{all_values, is_idle, level_of};
 
 /// Where a reader is within the changes.
 #[derive(Clone, Copy, Debug, PartialEq, Eq)]

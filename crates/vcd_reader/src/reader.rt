@@ -2,10 +2,10 @@
 ghost use Rattle.vcd_reader.specs.declared.fault.FeedFault.TheVariants as fault;
 
 use crate::fault::{FeedFault, answer};
-use crate::signals::wanted_by;
 use crate::stream::Stream;
 use capture_core::{Names, VcdFault, Watch};
 use std::alloc::Global;
+use vcd_header::wanted_by;
 use wheel_types::{Instant, Memory};
 
 /// Whether a stream goes on, has ended with this fault or none, or lacked memory.

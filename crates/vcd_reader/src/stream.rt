@@ -2,12 +2,12 @@
 use crate::fault::{FeedFault, answer};
 use crate::machine::Machine;
 use crate::phase::Phase;
-use crate::signals::Signals;
 use crate::stage::Stage;
 use crate::token::{Token, is_white};
 use crate::waiting::Waiting;
 use capture_core::{VcdFault, Watch};
 use std::alloc::{AllocError, Global};
+use vcd_header::Signals;
 use wheel_types::Instant;
 
 /// A dump that is read in pieces, before its end. After a fault it keeps what it has and reads nothing more.
@@ -32,7 +32,7 @@ impl Stream {
     ghost use Rattle.capture_core.specs.declared.capture.Watch.{Watch as AWatch};
     ghost use Rattle.capture_core.specs.declared.capture.VcdFault.{VcdFault as AFault};
     ghost use Rattle.capture_core.specs.Stamps.{instants_of};
-    ghost use Rattle.vcd_reader.specs.declared.signals.Signals.{Signals as ASignals};
+    ghost use Rattle.vcd_header.specs.declared.signals.Signals.{Signals as ASignals};
     ghost use Rattle.wheel_types.specs.declared.instant.Instant.{Instant as AnInstant};
 
     /// Before the first byte.

@@ -5,10 +5,3 @@ pub mod FileFaults
 pub mod OneMeaning
 pub mod GrownTables
 pub mod PrintedReadBack
-mod Fronts
-mod Passing
-mod Runs
-mod EntryValues
-mod EntryParts
-mod EntrySlots
-mod Pieces

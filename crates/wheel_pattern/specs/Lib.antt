@@ -6,9 +6,3 @@ pub mod Lookups
 pub mod WheelFile
 pub mod Laws
 pub mod Printed
-pub mod Tokens
-pub mod Spans
-pub mod Arrays
-pub mod Tables
-pub mod Kept
-pub mod TokenLaws

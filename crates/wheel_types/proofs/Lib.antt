@@ -13,7 +13,6 @@ pub mod BothWays
 pub mod OneStep
 pub mod StartsAndEnds
 pub mod Standing
-pub mod CrankOnly
 pub mod Determined
 pub mod Gaps
 pub mod ShapeTexts

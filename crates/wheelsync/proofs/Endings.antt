@@ -2,17 +2,18 @@
 use Rattle.std.proofs.Common.{◌≡◌, ℕ, ◌⊎◌, inl, inr, List, Option, None, Some, IfSome, IfErr, IsErrOf, Result, Ok, Err, refl, sym, ◌∙◌, subst, ap}
 use Rattle.std.specs.Prelude.{⊤}
 use Rattle.std.specs.Io.KnownBytes.{Appends, Keeps}
-use Rattle.wheelsync.specs.declared.cause.Cause.{Cause}
-use Rattle.wheelsync.specs.declared.cause.Cause.TheVariants as cause
-use Rattle.wheelsync.specs.declared.status.Status.{Status}
-use Rattle.wheelsync.specs.declared.status.Status.TheVariants as status
-use Rattle.wheelsync.specs.Causes.{RunGives, IsMissing}
+use Rattle.run_ends.specs.declared.cause.Cause.{Cause}
+use Rattle.run_ends.specs.declared.cause.Cause.TheVariants as cause
+use Rattle.run_ends.specs.declared.status.Status.{Status}
+use Rattle.run_ends.specs.declared.status.Status.TheVariants as status
+use Rattle.run_files.specs.Causes.{RunGives, IsMissing}
 use Rattle.wheelsync.specs.Outputs.{GetsRefused, GetsSome}
-use Rattle.wheelsync.specs.Notes.{note_of}
-use Rattle.wheelsync.specs.Ending.{status_for, status_of, OutGets, NotesGet}
-use Rattle.wheelsync.specs.Finishing.{HasNoted, HasFinished}
+use Rattle.run_ends.specs.Notes.{note_of}
+use Rattle.run_ends.specs.Statuses.{status_for, status_of}
+use Rattle.wheelsync.specs.Ending.{OutGets, NotesGet}
+use Rattle.run_ends.specs.Finishing.{HasNoted, HasFinished}
 use Rattle.wheelsync.specs.Complete.{AreReady}
-use Rattle.wheelsync.specs.Words.{Order, Replay, Import}
+use Rattle.command_words.specs.Words.{Order, Replay, Import}
 use Rattle.wheelsync.proofs.Putting.{prefix_all}
 use Rattle.wheelsync.proofs.Ready.{memory_alone}
 

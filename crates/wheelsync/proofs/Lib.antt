@@ -1,5 +1,3 @@
-pub mod FileNames
-pub mod DumpCaptures
 pub mod Sayings
 pub mod OneReport
 pub mod Reports

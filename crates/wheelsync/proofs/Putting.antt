@@ -13,7 +13,8 @@ use Rattle.wheel_types.specs.Texts.{report_text}
 use Rattle.plain_motion.specs.declared.set.PlainSet.{PlainSet}
 use Rattle.plain_motion.specs.Memories.{last_time}
 use Rattle.plain_motion.specs.Sets.{last_of}
-use Rattle.wheelsync.specs.Outputs.{AppendsPrefix, GetsReport}
+use Rattle.run_ends.specs.Prefixes.{AppendsPrefix}
+use Rattle.wheelsync.specs.Outputs.{GetsReport}
 use Rattle.wheelsync.specs.Stepping.{StandsOver, GetsLine, GetsLineFront, GetsSteppedFront}
 use Rattle.wheelsync.proofs.Sayings.{report_of}
 use Rattle.wheelsync.proofs.Reports.{one_each, report_text-next, reverse_next, reverse_take}

@@ -2,22 +2,22 @@
 use Rattle.std.proofs.Common.{◌≡◌, ℕ, inl, inr, List, length, Option, None, Some, Ok, Err, refl, sym, ◌∙◌, subst, ap, arith}
 use Rattle.wheel_types.specs.declared.parts.WheelParts.{WheelParts}
 use Rattle.wheel_pattern.specs.declared.fault.PatternFault.{PatternFault}
-use Rattle.wheel_pattern.specs.declared.fault.TableFault.{TableFault}
+use Rattle.c_tables.specs.declared.fault.TableFault.{TableFault}
 use Rattle.wheel_pattern.specs.WheelFile.{MeansWheel}
-use Rattle.wheel_pattern.specs.Tables.{table_in}
+use Rattle.c_tables.specs.Tables.{table_in}
 use Rattle.wheel_pattern.proofs.OneMeaning.{one_wheel, not_both}
 use Rattle.capture_core.specs.declared.capture.Capture.{Capture}
 use Rattle.capture_core.specs.declared.capture.End.{End}
 use Rattle.capture_core.specs.declared.capture.End.TheVariants.{Clean, Csv, Vcd}
-use Rattle.wheelsync.specs.declared.cause.Cause.{Cause}
-use Rattle.wheelsync.specs.declared.cause.Cause.TheVariants as cause
-use Rattle.wheelsync.specs.Files.{Holds, IsTooLong, HasWheel, HasPlacedWheel, HasCapture, HasTable, IsCapture, AreAccepted}
-use Rattle.wheelsync.specs.Causes.{ModelGives, CaptureEnds, SourceGives, RunGives, IsMissing}
+use Rattle.run_ends.specs.declared.cause.Cause.{Cause}
+use Rattle.run_ends.specs.declared.cause.Cause.TheVariants as cause
+use Rattle.run_files.specs.Files.{Holds, IsTooLong, HasWheel, HasPlacedWheel, HasCapture, HasTable, IsCapture, AreAccepted}
+use Rattle.run_files.specs.Causes.{ModelGives, CaptureEnds, SourceGives, RunGives, IsMissing}
 use Rattle.wheelsync.specs.Complete.{AreReady}
-use Rattle.wheelsync.specs.Options.{Options}
-use Rattle.wheelsync.specs.Words.{Order, Replay, Import}
+use Rattle.command_words.specs.Options.{Options}
+use Rattle.command_words.specs.Words.{Order, Replay, Import}
 use Rattle.cam_ranges.specs.Places.{HasTooMany}
-use Rattle.wheelsync.proofs.FileNames.{one_capture}
+use Rattle.run_files.proofs.FileNames.{one_capture}
 
 -- a file has one list of bytes
 pub same_bytes : (file : List ℕ → Option (List ℕ)) (name a b : List ℕ) → Holds file name a → Holds file name b → a ≡ b

@@ -1,32 +1,28 @@
 -- The parts of a replay put together.
-use Rattle.std.proofs.Common.{◌≡◌, ℕ, ◌⊎◌, inl, inr, List, Option, Some, None, Result, Ok, Err, IfErr, sym, ◌∙◌, subst, ap}
+use Rattle.std.proofs.Common.{◌≡◌, ℕ, inl, inr, List, Option, Some, None, Result, Ok, Err, IfErr, sym, ◌∙◌, subst, ap}
 use Rattle.std.proofs.KnownBytes.{Keeps-refl}
 use Rattle.wheel_types.specs.declared.parts.WheelParts.{WheelParts}
 use Rattle.capture_core.specs.declared.capture.Capture.{Capture}
 use Rattle.capture_core.specs.declared.capture.End.{End}
 use Rattle.capture_core.specs.declared.capture.End.TheVariants.{Clean, Csv, Vcd}
-use Rattle.wheelsync.specs.declared.cause.Cause.{Cause}
-use Rattle.wheelsync.specs.declared.cause.Cause.TheVariants as cause
-use Rattle.wheelsync.specs.Files.{HasWheel, HasPlacedWheel, HasCapture, AreRead}
-use Rattle.wheelsync.specs.Loading.{EndsLoading, EndsWriting}
-use Rattle.wheelsync.specs.Causes.{ModelGives, CaptureGives, RunGives, ended_by}
+use Rattle.run_ends.specs.declared.cause.Cause.{Cause}
+use Rattle.run_ends.specs.declared.cause.Cause.TheVariants as cause
+use Rattle.run_files.specs.Files.{HasPlacedWheel, HasCapture, AreRead}
+use Rattle.run_files.specs.Loading.{EndsLoading}
+use Rattle.wheelsync.specs.Stepping.{EndsWriting}
+use Rattle.run_files.specs.Causes.{ModelGives, CaptureGives, RunGives, ended_by}
 use Rattle.wheelsync.specs.Outputs.{GetsReport, GetsSome}
-use Rattle.wheelsync.specs.Ending.{OutGets, OutKeeps, KeepsRefused, status_for, status_of}
+use Rattle.run_ends.specs.Statuses.{status_for, status_of}
+use Rattle.wheelsync.specs.Ending.{OutGets, OutKeeps, KeepsRefused}
 use Rattle.wheelsync.specs.Stepping.{GetsSteppedFront}
-use Rattle.wheelsync.specs.Options.{Options}
-use Rattle.wheelsync.specs.Words.{Order, Replay, Import}
-use Rattle.cam_ranges.specs.Places.{HasTooMany}
+use Rattle.command_words.specs.Options.{Options}
+use Rattle.command_words.specs.Words.{Order, Replay, Import}
 use Rattle.wheel_types.specs.Verdicts.{IsRising}
 use Rattle.wheelsync.proofs.WholeReports.{front_of_whole}
 
 -- a cause that the capture gives over the model's wheel is one of the run
 pub run_gives : (file mid : List ℕ → Option (List ℕ)) (m f : List ℕ) (o : Options) (w : WheelParts) (e : Cause) → mid ≡ file → HasPlacedWheel file m w → CaptureGives mid f w o e → RunGives file (Replay m f o) e
 run_gives file mid m f o w e same h g = inr (w, (h, subst (λ t. CaptureGives t f w o e) same g))
-
--- why there is no fresh set over the wheel of a model
-pub set_gives : (file : List ℕ → Option (List ℕ)) (m f : List ℕ) (o : Options) (w : WheelParts) (e : Cause) → HasWheel file m w → ((e ≡ cause.TooManyPlaces) × HasTooMany w) ⊎ (e ≡ cause.Memory) → RunGives file (Replay m f o) e
-set_gives file m f o w e h (inl (is, edge)) = subst (RunGives file (Replay m f o)) (sym is) (inl (w, (h, edge)))
-set_gives file m f o w e h (inr is) = subst (RunGives file (Replay m f o)) (sym is) (inl tt)
 
 -- where the model's cause ends the run, out is as before
 pub none_by_model : (file : List ℕ → Option (List ℕ)) (m f : List ℕ) (o : Options) (out : Option (List ℕ)) (e : Cause) → ModelGives file m e → OutGets file (Replay m f o) out out (status_for e)
@@ -41,16 +37,11 @@ none_by_model file m f o out (cause.Vcd fault) g = absurd g
 none_by_model file m f o out (cause.Table fault) g = absurd g
 none_by_model file m f o out cause.Usage g = absurd g
 
--- and so it is where loading ends the run, or want of memory or too many places do
+-- and so it is where loading ends the run
 pub none_by_loading : (file : List ℕ → Option (List ℕ)) (m f : List ℕ) (o : Options) (out : Option (List ℕ)) (e : Cause) → EndsLoading e → OutGets file (Replay m f o) out out (status_for e)
 none_by_loading file m f o out e (inl is) = subst (λ k. OutGets file (Replay m f o) out out (status_for k)) (sym is) (Keeps-refl out)
 none_by_loading file m f o out e (inr (inl is)) = subst (λ k. OutGets file (Replay m f o) out out (status_for k)) (sym is) (Keeps-refl out)
 none_by_loading file m f o out e (inr (inr is)) = subst (λ k. OutGets file (Replay m f o) out out (status_for k)) (sym is) (inl (Keeps-refl out))
-
-pub none_by_set : (file : List ℕ → Option (List ℕ)) (m f : List ℕ) (o : Options) (w : WheelParts) (out : Option (List ℕ)) (e : Cause) → ((e ≡ cause.TooManyPlaces) × HasTooMany w) ⊎ (e ≡ cause.Memory)
-    → OutGets file (Replay m f o) out out (status_for e)
-none_by_set file m f o w out e (inl (is, many)) = subst (λ k. OutGets file (Replay m f o) out out (status_for k)) (sym is) (Keeps-refl out)
-none_by_set file m f o w out e (inr is) = subst (λ k. OutGets file (Replay m f o) out out (status_for k)) (sym is) (inl (Keeps-refl out))
 
 -- an import that a cause ends before its write leaves out as it is
 pub none_imported : (file : List ℕ → Option (List ℕ)) (s n : List ℕ) (out : Option (List ℕ)) (e : Cause) → OutGets file (Import s n) out out (status_for e)

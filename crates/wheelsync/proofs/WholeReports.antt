@@ -11,7 +11,8 @@ use Rattle.wheel_types.specs.Wheels.{IsWheel}
 use Rattle.wheel_types.proofs.Determined.{verdicts_determined}
 use Rattle.wheel_types.proofs.RisingTimes.{rises_to-reverse}
 use Rattle.plain_motion.proofs.Existing.{verdicts_exist}
-use Rattle.wheelsync.specs.Outputs.{AppendsPrefix, GetsFront}
+use Rattle.run_ends.specs.Prefixes.{AppendsPrefix}
+use Rattle.wheelsync.specs.Outputs.{GetsFront}
 use Rattle.wheelsync.specs.Stepping.{GetsSteppedFront}
 use Rattle.wheelsync.proofs.Reports.{one_each}
 use Rattle.wheelsync.proofs.Sayings.{are_verdicts, report_of}

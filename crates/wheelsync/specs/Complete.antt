@@ -3,8 +3,8 @@ use Rattle.std.specs.Prelude.{List, ℕ}
 use Rattle.std.specs.declared.option.Option.{Option}
 use Rattle.wheel_types.specs.declared.parts.WheelParts.{WheelParts}
 use Rattle.capture_core.specs.declared.capture.Capture.{Capture}
-use Rattle.wheelsync.specs.Files.{AreAccepted, HasTable}
-use Rattle.wheelsync.specs.Words.{Order, Replay, Import}
+use Rattle.run_files.specs.Files.{AreAccepted, HasTable}
+use Rattle.command_words.specs.Words.{Order, Replay, Import}
 
 -- the files are there, short enough and accepted
 abbrev pub AreReady : (List ℕ → Option (List ℕ)) → Order → Type 0

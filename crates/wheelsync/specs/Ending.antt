@@ -1,32 +1,16 @@
 -- The status of a run, and what out and notes get by it.
-use Rattle.std.specs.Prelude.{◌≡◌, ℕ, ◌⊎◌, List, ⊤, Some, None, Result, Ok, Err}
+use Rattle.std.specs.Prelude.{◌≡◌, ℕ, ◌⊎◌, List, ⊤, Some, None}
 use Rattle.std.specs.declared.option.Option.{Option}
 use Rattle.std.specs.Io.KnownBytes.{Appends, Keeps}
-use Rattle.wheelsync.specs.declared.cause.Cause.{Cause}
-use Rattle.wheelsync.specs.declared.cause.Cause.TheVariants as cause
-use Rattle.wheelsync.specs.declared.status.Status.{Status}
-use Rattle.wheelsync.specs.declared.status.Status.TheVariants as status
-use Rattle.wheelsync.specs.Notes.{note_of}
-use Rattle.wheelsync.specs.Outputs.{AppendsPrefix, GetsWhole, GetsRefused, GetsSome}
-use Rattle.wheelsync.specs.Words.{Order, Replay, Import}
-
--- the status of a cause
-abbrev pub status_for : Cause → Status
-status_for cause.Usage = status.Usage
-status_for (cause.Wheel fault) = status.Refused
-status_for cause.TooManyPlaces = status.Limit
-status_for (cause.Table fault) = status.Refused
-status_for (cause.Csv fault) = status.Refused
-status_for (cause.Vcd fault) = status.Refused
-status_for cause.ReadFault = status.ReadFault
-status_for cause.WriteFault = status.WriteFault
-status_for cause.Memory = status.Memory
-status_for cause.FileLimit = status.Limit
-
--- the status of an end
-abbrev pub status_of : {T : Type 0} → Result T Cause → Status
-status_of (Ok x) = status.Done
-status_of (Err e) = status_for e
+use Rattle.run_ends.specs.declared.cause.Cause.{Cause}
+use Rattle.run_ends.specs.declared.cause.Cause.TheVariants as cause
+use Rattle.run_ends.specs.declared.status.Status.{Status}
+use Rattle.run_ends.specs.declared.status.Status.TheVariants as status
+use Rattle.run_ends.specs.Notes.{note_of}
+use Rattle.run_ends.specs.Prefixes.{AppendsPrefix}
+use Rattle.run_ends.specs.Statuses.{status_for}
+use Rattle.wheelsync.specs.Outputs.{GetsWhole, GetsRefused, GetsSome}
+use Rattle.command_words.specs.Words.{Order, Replay, Import}
 
 -- by the status, what out gets over told files
 abbrev pub OutGets : (List ℕ → Option (List ℕ)) → Order → Option (List ℕ) → Option (List ℕ) → Status → Type 0

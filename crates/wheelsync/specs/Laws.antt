@@ -3,8 +3,8 @@ use Rattle.std.specs.Prelude.{◌≡◌, ℕ, List}
 use Rattle.wheel_types.specs.declared.parts.WheelParts.{WheelParts}
 use Rattle.capture_core.specs.declared.capture.Capture.{Capture}
 use Rattle.wheel_pattern.specs.WheelFile.{MeansWheel}
-use Rattle.wheelsync.specs.Files.{IsCapture}
-use Rattle.wheelsync.specs.Options.{Options}
+use Rattle.run_files.specs.Files.{IsCapture}
+use Rattle.command_words.specs.Options.{Options}
 use Rattle.wheelsync.specs.Headline.{IsReport}
 
 -- two reports of a model's and a capture's bytes, with the same options, are one, however the capture ends

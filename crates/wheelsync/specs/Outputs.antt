@@ -1,5 +1,5 @@
 -- What a run leaves on out and on notes.
-use Rattle.std.specs.Prelude.{◌≢◌, ℕ, ◌≤◌, ◌⊎◌, List, length, take}
+use Rattle.std.specs.Prelude.{◌≢◌, ℕ, ◌⊎◌, List}
 use Rattle.std.specs.declared.option.Option.{Option}
 use Rattle.std.specs.Io.KnownBytes.{Appends, Keeps}
 use Rattle.wheel_types.specs.declared.parts.WheelParts.{WheelParts}
@@ -7,16 +7,13 @@ use Rattle.wheel_types.specs.declared.instant.Instant.{Instant}
 use Rattle.wheel_pattern.specs.declared.fault.PatternFault.{PatternFault}
 use Rattle.capture_core.specs.declared.capture.Capture.{Capture}
 use Rattle.capture_core.specs.declared.capture.End.TheVariants.{Clean}
-use Rattle.wheelsync.specs.declared.cause.Cause.TheVariants as cause
-use Rattle.wheelsync.specs.Causes.{ModelGives}
-use Rattle.wheelsync.specs.Files.{AreRead, AreAccepted, HasTable}
-use Rattle.wheelsync.specs.Slots.{slots_text}
-use Rattle.wheelsync.specs.Words.{Order, Replay, Import}
+use Rattle.run_ends.specs.declared.cause.Cause.TheVariants as cause
+use Rattle.run_ends.specs.Prefixes.{AppendsPrefix}
+use Rattle.run_files.specs.Causes.{ModelGives}
+use Rattle.run_files.specs.Files.{AreRead, AreAccepted, HasTable}
+use Rattle.c_tables.specs.Slots.{slots_text}
+use Rattle.command_words.specs.Words.{Order, Replay, Import}
 use Rattle.wheelsync.specs.Headline.{IsReport}
-
--- told bytes grow by a prefix of the text
-abbrev pub AppendsPrefix : Option (List ℕ) → Option (List ℕ) → List ℕ → Type 0
-AppendsPrefix old new text = (k : ℕ) × ((k ≤ length text) × Appends old new (take k text))
 
 -- told bytes grow by the report of the instants
 abbrev pub GetsReport : Option (List ℕ) → Option (List ℕ) → WheelParts → List Instant → Type 0

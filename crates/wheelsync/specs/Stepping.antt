@@ -7,10 +7,12 @@ use Rattle.wheel_types.specs.declared.instant.Instant.{Instant}
 use Rattle.wheel_types.specs.declared.verdict.Verdict.{Verdict}
 use Rattle.wheel_types.specs.Verdicts.{AreVerdicts}
 use Rattle.wheel_types.specs.Texts.{line_text}
+use Rattle.run_ends.specs.declared.cause.Cause.{Cause}
+use Rattle.run_ends.specs.declared.cause.Cause.TheVariants as cause
 use Rattle.plain_motion.specs.declared.set.PlainSet.{PlainSet}
 use Rattle.plain_motion.specs.Sets.{StandsFor, wheel_of}
 use Rattle.wheelsync.specs.Headline.{IsReport}
-use Rattle.wheelsync.specs.Outputs.{AppendsPrefix}
+use Rattle.run_ends.specs.Prefixes.{AppendsPrefix}
 
 -- the set stands, over this wheel, for the instants, and these are their verdicts
 pub record StandsOver (w : WheelParts) (set : PlainSet) (past : List Instant) (verdicts : List Verdict) : Type 0 where
@@ -29,3 +31,7 @@ GetsLineFront old new w index i past verdicts = Keeps old new
 -- they grow by a prefix of the report of the first instants
 abbrev pub GetsSteppedFront : Option (List ℕ) → Option (List ℕ) → WheelParts → List Instant → Type 0
 GetsSteppedFront old new w instants = (k : ℕ) × ((text : List ℕ) × ((k ≤ length instants) × (IsReport w (take k instants) text × AppendsPrefix old new text)))
+
+-- the causes with which writing can end
+abbrev pub EndsWriting : Cause → Type 0
+EndsWriting e = (e ≡ cause.WriteFault) ⊎ (e ≡ cause.Memory)

@@ -1,15 +1,16 @@
 //! Serving a command.
 ghost use Rattle.std.specs.Prelude.{◌≡◌, ◌≤◌, map, string_bytes, ◌↔◌, IsTrue, IfErr, IfSome, IsErrOf, Err, None};
 ghost use Rattle.shelf_io.specs.Count.{Rose};
-ghost use Rattle.wheelsync.specs.Loading.{LoadsOn};
-ghost use Rattle.wheelsync.specs.Causes.{RunGives, IsMissing};
-ghost use Rattle.wheelsync.specs.Ending.{OutGets, OutKeeps, status_of};
-ghost use Rattle.wheelsync.specs.Words.{command_of};
+ghost use Rattle.run_files.specs.Loading.{LoadsOn};
+ghost use Rattle.run_files.specs.Causes.{RunGives, IsMissing};
+ghost use Rattle.run_ends.specs.Statuses.{status_of};
+ghost use Rattle.wheelsync.specs.Ending.{OutGets, OutKeeps};
+ghost use Rattle.command_words.specs.Words.{command_of};
 
-use crate::Cause;
 use crate::import::import;
 use crate::replay::replay;
-use crate::words::{Command, read_command};
+use command_words::{Command, read_command};
+use run_ends::Cause;
 use shelf_io::{Shelf, Sink};
 use std::alloc::Global;
 

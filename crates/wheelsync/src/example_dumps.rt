@@ -1,8 +1,8 @@
 //! Value change dumps of `examples/`, and the report that each gives with `--cam1 cam`. `bench/reference.py` computed it.
 
 /// `examples/four-teeth-cam.toml`.
-pub const DUMPED_WHEEL: &[u8] =
-    b"# Four teeth, one of them missing, and a cam that is high in four slots of the second turn. Its edges come up to 30 degrees early.
+pub const DUMPED_WHEEL: &str =
+    "# Four teeth, one of them missing, and a cam that is high in four slots of the second turn. Its edges come up to 30 degrees early.
 # The wheel of examples/wheel.v; replay its dumps with --cam1 cam.
 degrees = 720
 teeth = 4
@@ -15,7 +15,7 @@ ratio = [3, 2]
 ";
 
 /// `examples/four-teeth-cam.report`.
-pub const DUMPED_REPORT: &[u8] = b"1 16000000000000 C+ open 5:1:0 0:0:0
+pub const DUMPED_REPORT: &str = "1 16000000000000 C+ open 5:1:0 0:0:0
 2 31000000000000 C+ open 4:1:0 5:1:0
 3 34750000000000 1+ at 4 slot 10
 4 46000000000000 C+ at 5 slot 12
@@ -32,7 +32,7 @@ pub const DUMPED_REPORT: &[u8] = b"1 16000000000000 C+ open 5:1:0 0:0:0
 ";
 
 /// `examples/icarus.vcd`.
-pub const ICARUS_DUMP: &[u8] = b"$date
+pub const ICARUS_DUMP: &str = "$date
 \tTue Dec  1 04:54:21 2026
 $end
 $version
@@ -158,7 +158,7 @@ b101000 #
 ";
 
 /// `examples/fst2vcd.vcd`.
-pub const FST_DUMP: &[u8] = b"$date
+pub const FST_DUMP: &str = "$date
 \tTue Dec  1 04:54:21 2026
 
 $end

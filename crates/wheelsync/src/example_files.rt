@@ -1,8 +1,8 @@
 //! The files of `examples/` with their reports. Those of the larger wheels were computed by `bench/reference.py`.
 
 /// `examples/36-1.toml`.
-pub const THIRTY_SIX_WHEEL: &[u8] =
-    b"# 36 teeth, one of them missing: Ford's wheel of the 1990s, on engines of four to eight cylinders.
+pub const THIRTY_SIX_WHEEL: &str =
+    "# 36 teeth, one of them missing: Ford's wheel of the 1990s, on engines of four to eight cylinders.
 teeth = 36
 missing = 1
 rpm_low = 200
@@ -11,7 +11,7 @@ ratio = [5, 4]
 ";
 
 /// `examples/36-1.csv`.
-pub const THIRTY_SIX_CAPTURE: &[u8] = b"time,crank
+pub const THIRTY_SIX_CAPTURE: &str = "time,crank
 0.000000,0
 0.001000,1
 0.001300,0
@@ -32,7 +32,7 @@ pub const THIRTY_SIX_CAPTURE: &[u8] = b"time,crank
 ";
 
 /// `examples/36-1.report`.
-pub const THIRTY_SIX_REPORT: &[u8] = b"1 1000000000000 C+ open 34:0:0 0:0:0
+pub const THIRTY_SIX_REPORT: &str = "1 1000000000000 C+ open 34:0:0 0:0:0
 2 2667000000000 C+ open 33:0:0 34:0:0
 3 4327000000000 C+ open 34:0:0 0:0:0
 4 5979000000000 C+ open 34:0:0 0:0:0
@@ -43,8 +43,8 @@ pub const THIRTY_SIX_REPORT: &[u8] = b"1 1000000000000 C+ open 34:0:0 0:0:0
 ";
 
 /// `examples/60-2.toml`.
-pub const SIXTY_WHEEL: &[u8] =
-    b"# 60 teeth, two of them missing: the wheel of Bosch's controllers, and today's most common one.
+pub const SIXTY_WHEEL: &str =
+    "# 60 teeth, two of them missing: the wheel of Bosch's controllers, and today's most common one.
 teeth = 60
 missing = 2
 rpm_low = 200
@@ -53,7 +53,7 @@ ratio = [3, 2]
 ";
 
 /// `examples/60-2.csv`.
-pub const SIXTY_CAPTURE: &[u8] = b"time,crank
+pub const SIXTY_CAPTURE: &str = "time,crank
 0.000000,0
 0.001000,1
 0.001300,0
@@ -78,7 +78,7 @@ pub const SIXTY_CAPTURE: &[u8] = b"time,crank
 ";
 
 /// `examples/60-2.report`.
-pub const SIXTY_REPORT: &[u8] = b"1 1000000000000 C+ open 57:0:0 0:0:0
+pub const SIXTY_REPORT: &str = "1 1000000000000 C+ open 57:0:0 0:0:0
 2 2000000000000 C+ open 56:0:0 57:0:0
 3 3001000000000 C+ open 57:0:0 0:0:0
 4 4000000000000 C+ open 57:0:0 0:0:0
@@ -91,8 +91,8 @@ pub const SIXTY_REPORT: &[u8] = b"1 1000000000000 C+ open 57:0:0 0:0:0
 ";
 
 /// `examples/7x.toml`.
-pub const SEVEN_WHEEL: &[u8] =
-    b"# Seven notches: six of them 60 degrees apart, and a seventh 10 degrees after the last of these, which marks the turn. V6 engines
+pub const SEVEN_WHEEL: &str =
+    "# Seven notches: six of them 60 degrees apart, and a seventh 10 degrees after the last of these, which marks the turn. V6 engines
 # of the 1980s and 1990s. Slots of 5 degrees; the gaps are 12, 12, 12, 12, 12, 2 and 10 slots.
 degrees = 360
 slots = [1, 0, 0, 0, 0, 0, 0, 0, 0, 0, 0, 0, 1, 0, 0, 0, 0, 0, 0, 0, 0, 0, 0, 0, 1, 0, 0, 0, 0, 0, 0, 0, 0, 0, 0, 0, 1, 0, 0, 0, 0, 0, 0, 0, 0, 0, 0, 0, 1, 0, 0, 0, 0, 0, 0, 0, 0, 0, 0, 0, 1, 0, 1, 0, 0, 0, 0, 0, 0, 0, 0, 0]
@@ -102,7 +102,7 @@ ratio = [3, 2]
 ";
 
 /// `examples/7x.csv`.
-pub const SEVEN_CAPTURE: &[u8] = b"time,crank
+pub const SEVEN_CAPTURE: &str = "time,crank
 0.000,0
 0.010,1
 0.0105,0
@@ -121,7 +121,7 @@ pub const SEVEN_CAPTURE: &[u8] = b"time,crank
 ";
 
 /// `examples/7x.report`.
-pub const SEVEN_REPORT: &[u8] = b"1 10000000000000 C+ open 6:0:0 0:0:0
+pub const SEVEN_REPORT: &str = "1 10000000000000 C+ open 6:0:0 0:0:0
 2 22000000000000 C+ open 5:0:0 6:0:0
 3 34000000000000 C+ open 5:0:0 6:0:0
 4 36000000000000 C+ at 6 slot 62
@@ -131,8 +131,8 @@ pub const SEVEN_REPORT: &[u8] = b"1 10000000000000 C+ open 6:0:0 0:0:0
 ";
 
 /// `examples/24-1.toml`.
-pub const TWENTY_FOUR_WHEEL: &[u8] =
-    b"# 24 teeth, one of them missing: motorcycle engines with a wheel on the alternator's rotor.
+pub const TWENTY_FOUR_WHEEL: &str =
+    "# 24 teeth, one of them missing: motorcycle engines with a wheel on the alternator's rotor.
 teeth = 24
 missing = 1
 rpm_low = 200
@@ -141,8 +141,8 @@ ratio = [5, 4]
 ";
 
 /// `examples/12-1.toml`.
-pub const TWELVE_WHEEL: &[u8] =
-    b"# 12 teeth, one of them missing: small engines of motorcycles and scooters.
+pub const TWELVE_WHEEL: &str =
+    "# 12 teeth, one of them missing: small engines of motorcycles and scooters.
 teeth = 12
 missing = 1
 rpm_low = 300
@@ -151,8 +151,8 @@ ratio = [4, 3]
 ";
 
 /// `examples/36-2-2-2.toml`.
-pub const THREE_GAPS_WHEEL: &[u8] =
-    b"# 36 teeth in groups of 16, 13 and 1, each with two missing teeth after it: flat four-cylinder engines. The short form takes
+pub const THREE_GAPS_WHEEL: &str =
+    "# 36 teeth in groups of 16, 13 and 1, each with two missing teeth after it: flat four-cylinder engines. The short form takes
 # one gap alone, so the slots are listed: two for each tooth.
 degrees = 360
 slots = [1, 0, 1, 0, 1, 0, 1, 0, 1, 0, 1, 0, 1, 0, 1, 0, 1, 0, 1, 0, 1, 0, 1, 0, 1, 0, 1, 0, 1, 0, 1, 0, 0, 0, 0, 0, 1, 0, 1, 0, 1, 0, 1, 0, 1, 0, 1, 0, 1, 0, 1, 0, 1, 0, 1, 0, 1, 0, 1, 0, 1, 0, 0, 0, 0, 0, 1, 0, 0, 0, 0, 0]
@@ -162,8 +162,8 @@ ratio = [3, 2]
 ";
 
 /// `examples/wheels.c`.
-pub const TABLES: &[u8] =
-    b"/* Slot tables as stimulators of wheels keep them: a byte for each slot of a cycle. Print one with
+pub const TABLES: &str =
+    "/* Slot tables as stimulators of wheels keep them: a byte for each slot of a cycle. Print one with
  *     wheelsync import examples/wheels.c four_minus_one
  */
 #include <avr/pgmspace.h>
@@ -190,8 +190,8 @@ const char *names[] = { \"four_minus_one[] = { 9 };\", \"with cam\" };
 ";
 
 /// `examples/4-1.toml`.
-pub const FOUR_WHEEL: &[u8] =
-    b"# Four teeth, one of them missing: simple wheels, as on a distributor's place or of home-made conversions.
+pub const FOUR_WHEEL: &str =
+    "# Four teeth, one of them missing: simple wheels, as on a distributor's place or of home-made conversions.
 teeth = 4
 missing = 1
 rpm_low = 60
@@ -200,12 +200,12 @@ ratio = [3, 2]
 ";
 
 /// `examples/wheels.four_minus_one.slots`.
-pub const FOUR_SLOTS: &[u8] = b"slots = [1, 0, 1, 0, 1, 0, 0, 0]
+pub const FOUR_SLOTS: &str = "slots = [1, 0, 1, 0, 1, 0, 0, 0]
 ";
 
 /// `examples/60-2-cam.toml`.
-pub const SIXTY_CAM_WHEEL: &[u8] =
-    b"# 60 teeth, two of them missing, over the two turns of a four-stroke cycle, and a cam that is high in twenty slots of 3 degrees
+pub const SIXTY_CAM_WHEEL: &str =
+    "# 60 teeth, two of them missing, over the two turns of a four-stroke cycle, and a cam that is high in twenty slots of 3 degrees
 # from slot 10 on. A phase shifter may bring its edge 25 degrees early: engines with one variable camshaft.
 # Replay it with --crank \"Channel 0\" --cam1 \"Channel 1\": the capture's names are those of a logic analyser.
 degrees = 720
@@ -219,7 +219,7 @@ ratio = [3, 2]
 ";
 
 /// `examples/60-2-cam.csv`.
-pub const SIXTY_CAM_CAPTURE: &[u8] = b"Time [s],Channel 0,Channel 1
+pub const SIXTY_CAM_CAPTURE: &str = "Time [s],Channel 0,Channel 1
 -0.000250000,0,0
 0.000000000,1,0
 0.000500000,0,0
@@ -236,7 +236,7 @@ pub const SIXTY_CAM_CAPTURE: &[u8] = b"Time [s],Channel 0,Channel 1
 ";
 
 /// `examples/60-2-cam.report`.
-pub const SIXTY_CAM_REPORT: &[u8] = b"1 0 C+ open 115:1:0 0:0:0
+pub const SIXTY_CAM_REPORT: &str = "1 0 C+ open 115:1:0 0:0:0
 2 1000000000000 C+ open 114:1:0 115:1:0
 3 2000000000000 C+ open 115:1:0 0:0:0
 4 5000000000000 C+ open 112:1:0 54:1:0
@@ -246,8 +246,8 @@ pub const SIXTY_CAM_REPORT: &[u8] = b"1 0 C+ open 115:1:0 0:0:0
 ";
 
 /// `examples/two-cams.toml`.
-pub const TWO_CAMS_WHEEL: &[u8] =
-    b"# Twelve teeth, one of them missing, and two cams with phase shifters: the first may come late, the second early. Engines with two
+pub const TWO_CAMS_WHEEL: &str =
+    "# Twelve teeth, one of them missing, and two cams with phase shifters: the first may come late, the second early. Engines with two
 # variable camshafts.
 degrees = 720
 teeth = 12
@@ -262,7 +262,7 @@ ratio = [3, 2]
 ";
 
 /// `examples/two-cams.csv`.
-pub const TWO_CAMS_CAPTURE: &[u8] = b"time,crank,cam1,cam2
+pub const TWO_CAMS_CAPTURE: &str = "time,crank,cam1,cam2
 0.000,0,0,0
 0.004,1,0,0
 0.006,0,0,0
@@ -295,7 +295,7 @@ pub const TWO_CAMS_CAPTURE: &[u8] = b"time,crank,cam1,cam2
 ";
 
 /// `examples/two-cams.report`.
-pub const TWO_CAMS_REPORT: &[u8] = b"1 4000000000000 C+ open 21:1:1 0:0:0
+pub const TWO_CAMS_REPORT: &str = "1 4000000000000 C+ open 21:1:1 0:0:0
 2 8000000000000 C+ open 20:1:1 21:1:1
 3 12000000000000 C+1+2+ open 21:1:1 0:0:0
 4 16000000000000 C+ open 21:1:1 0:0:0

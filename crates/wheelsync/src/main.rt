@@ -5,10 +5,7 @@
 
 ghost use Rattle.std.specs.Prelude.{◌≡◌, ◌⊎◌, []};
 
-mod capture_file;
-mod cause;
 mod commands;
-mod ending;
 #[cfg(test)]
 mod example_dumps;
 #[cfg(test)]
@@ -16,30 +13,20 @@ mod example_files;
 mod help;
 mod import;
 mod laws;
-mod load;
-mod note;
-mod options;
 mod put;
 mod replay;
-mod report;
-mod spoken;
-mod status;
 mod tap;
 #[cfg(test)]
 mod tests;
 mod top;
-mod words;
 
-pub use capture_file::read_capture;
-pub use cause::Cause;
 pub use commands::serve;
-pub use ending::finish;
 use help::answer;
 pub use laws::one_report;
+pub use pair_certificate::report_line;
 pub use put::put_report;
-pub use report::report_line;
+pub use run_ends::Status;
 use shelf_io::{RealShelf, Sink, StdSink, write_all};
-pub use status::Status;
 use std::alloc::AllocError;
 use std::env;
 use std::io::{ErrorKind, IsTerminal, Write};

@@ -7,12 +7,14 @@ ghost use Rattle.wheel_types.specs.declared.instant.Instant.{Instant as Moment};
 ghost use Rattle.wheel_types.specs.declared.verdict.Verdict.{Verdict as Judgement};
 ghost use Rattle.wheel_types.specs.Verdicts.{IsRising, AreWithin};
 ghost use Rattle.plain_motion.specs.Sets.{last_of};
-ghost use Rattle.wheelsync.specs.Loading.{EndsWriting};
-ghost use Rattle.wheelsync.specs.Outputs.{AppendsPrefix, GetsReport};
+ghost use Rattle.wheelsync.specs.Stepping.{EndsWriting};
+ghost use Rattle.run_ends.specs.Prefixes.{AppendsPrefix};
+ghost use Rattle.wheelsync.specs.Outputs.{GetsReport};
 ghost use Rattle.wheelsync.specs.Stepping.{StandsOver, GetsLine, GetsLineFront, GetsSteppedFront};
 
-use crate::{Cause, report_line};
+use pair_certificate::report_line;
 use plain_motion::PlainSet;
+use run_ends::Cause;
 use shelf_io::{PutFault, Sink, write_all};
 use std::alloc::Global;
 use wheel_types::{Instant, Memory, Report};

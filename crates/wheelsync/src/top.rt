@@ -1,13 +1,14 @@
 //! The top call.
 ghost use Rattle.std.specs.Prelude.{◌≡◌, ◌≤◌, ◌⊎◌, map, string_bytes, IsTrue, IfSome, None, ⊤};
 ghost use Rattle.shelf_io.specs.Count.{Rose};
-ghost use Rattle.wheelsync.specs.Words.{command_of};
-ghost use Rattle.wheelsync.specs.Loading.{LoadsOn};
-ghost use Rattle.wheelsync.specs.Causes.{RunGives, IsMissing};
+ghost use Rattle.command_words.specs.Words.{command_of};
+ghost use Rattle.run_files.specs.Loading.{LoadsOn};
+ghost use Rattle.run_files.specs.Causes.{RunGives, IsMissing};
 ghost use Rattle.wheelsync.specs.Ending.{OutGets, OutKeeps, NotesGet};
 ghost use Rattle.wheelsync.specs.Complete.{AreReady};
 
-use crate::{Status, Tap, finish, serve};
+use crate::{Tap, serve};
+use run_ends::{Status, finish};
 use shelf_io::{Shelf, Sink};
 use std::alloc::Global;
 

@@ -1,313 +1,124 @@
 //! Captures in both forms, and the report of what comes before a fault.
 
-use super::{FOUND_REPORT, THREE_TEETH, replayed};
+use super::{BETWEEN, CAM_ROWS, DUMP, THREE_TEETH, differing, replayed, told};
 use crate::Status;
+use std::alloc::Global;
 use std::test::Fail;
 
-/// A dump of 184 bytes. The first known level, at 5 ms, makes no edge, and the three changes at 20 ms are one falling edge.
-const DUMP: &[u8] = b"$timescale 1ms $end
-$scope module top $end
-$var wire 1 ! crank $end
-$var wire 1 ! alias $end
-$upscope $end
-$enddefinitions $end
-#0
-$dumpvars
-x!
-$end
-#5
-0!
-#10
-b1 !
-#20
-0!
-1!
-0!
-#30
-1!
+const ROWS: &str = "
+-- Columns.
+three | ␤ =>  / Refused capture: no column time␤
+three --cam1 a | t,crank␤0,0␤ =>  / Refused capture: no column cam1␤
+three --cam2 a | t,crank␤0,0␤ =>  / Refused capture: no column cam2␤
+three --time t | t,t,crank␤ =>  / Refused capture: two columns time␤
+three | t,crank,crank␤ =>  / Refused capture: two columns crank␤
+-- Rows and times.
+three | t,crank␤0,0␤1␤ =>  / Refused capture: short row 3␤
+three | t,crank␤0,0␤1e,1␤ =>  / Refused capture: bad time row 3␤
+three | t,crank␤-0.001,0␤0,1␤1,0␤1000000000.5,1␤ => 1 0 C+ open 2:0:0 0:0:0␤ / Refused capture: time too large row 5␤
+three | t,crank␤0,0␤1e-16,1␤ =>  / Refused capture: time too fine row 3␤
+three | t,crank␤-0.001,0␤0,1␤1,0␤0.9,1␤ => 1 0 C+ open 2:0:0 0:0:0␤ / Refused capture: time falls row 5␤
+-- Levels. The edge at 1 ms is in the stamp that is open at the fault.
+three | t,crank␤0,0␤0.001,1␤0.002,x␤ =>  / Refused capture: bad level crank row 4␤
+three --cam1 a | t,crank,a␤0,0,2␤ =>  / Refused capture: bad level cam1 row 2␤
+-- A dump begins with a dollar sign past white space alone.
+three | x $timescale 1ms $end␤ =>  / Refused capture: no column crank␤
+three |  ␤␉ =>  / Refused capture: no column crank␤
+three |  =>  / Refused capture: no column time␤
 ";
 
-const DUMP_REPORT: &[u8] = b"1 10000000000000 C+ open 2:0:0 0:0:0
-2 30000000000000 C+ open 1:0:0 2:0:0
+/// A header of one signal has 66 bytes.
+const DUMPS: &str = "
+-- Dumps that are accepted.
+three | dump => 1 10000000000000 C+ open 2:0:0 0:0:0␤2 30000000000000 C+ open 1:0:0 2:0:0␤ / Done 
+three --crank top.crank | dump => 1 10000000000000 C+ open 2:0:0 0:0:0␤2 30000000000000 C+ open 1:0:0 2:0:0␤ / Done 
+three --crank alias | dump => 1 10000000000000 C+ open 2:0:0 0:0:0␤2 30000000000000 C+ open 1:0:0 2:0:0␤ / Done 
+three | $timescale 1ms $end $var wire 1 ! crank $end $enddefinitions $end =>  / Done 
+-- Two channels of one signal.
+three --cam1 top.alias | $timescale 10 us $end $scope module top $end $var wire 1 ! crank $end $var wire 1 ! alias $end $enddefinitions $end 0! #100 1! #101 => 1 1000000000000 C+1+ lost␤ / Done 
+-- Blanks come first.
+three |  ␉␤ $timescale 1ms $end $var wire 1 ! crank $end $enddefinitions $end 0! #1 1! => 1 1000000000000 C+ open 2:0:0 0:0:0␤ / Done 
+-- Faults.
+three | $enddefinitions $end␤ =>  / Refused capture: no timescale␤
+three | $timescale 1ms $end␤x␤ =>  / Refused capture: bad token byte 20␤
+three | $timescale 1ms $end $var wire 1 ! crank $end $enddefinitions $end␤#5␤#4␤ =>  / Refused capture: time falls byte 69␤
+three | $timescale 1ms $end $var wire 1 ! crank $end $enddefinitions $end␤#0␤0!␤#1␤1!␤#2␤#1000000000001␤ => 1 1000000000000 C+ open 2:0:0 0:0:0␤ / Refused capture: time too large byte 81␤
+-- The edge at 1 ms is in the stamp that is open at the fault.
+three | $timescale 1ms $end $var wire 1 ! crank $end $enddefinitions $end␤#0␤0!␤#1␤1!␤#␤ =>  / Refused capture: bad token byte 78␤
+-- Signals.
+three --crank top | dump =>  / Refused capture: no signal crank␤
+three --cam1 a | dump =>  / Refused capture: no signal cam1␤
+three --cam2 a | dump =>  / Refused capture: no signal cam2␤
+three |   $timescale 1ms $end $enddefinitions $end␤ =>  / Refused capture: no signal crank␤
+three | $timescale 1ms $end $var wire 1 ! crank $end $var wire 1 ? crank $end $enddefinitions $end␤ =>  / Refused capture: two signals crank␤
+three | $timescale 1ms $end $var wire 2 ! crank $end $enddefinitions $end␤ =>  / Refused capture: wide signal crank␤
+-- Cut. The column of times has no part in a dump.
+three | $ =>  / Refused capture: cut byte 1␤
+three | $timescale 1ms $end $var wire 1 ! crank $end $enddefinitions $end␤b1 =>  / Refused capture: cut byte 68␤
+three --time t | $timescale 1ms $end $var wire 1 ! crank $end $enddefinitions $end␤1 =>  / Refused capture: cut byte 66␤
 ";
 
-/// Two turns of four teeth, and a cam's edge between the second and the third; edges that tell the turns apart.
-const BETWEEN: &[u8] = b"degrees = 720
-slots = [1, 0, 1, 2, 1, 0, 1, 0]
-rpm_low = 60
-rpm_high = 6000
-ratio = [3, 2]
-";
-
-const CAM_ROWS: &[u8] =
-    b"t,crank,cam1\n-0.001,0,0\n0,1,0\n0.01,0,0\n0.03,1,0\n0.04,0,0\n0.045,0,1\n0.05,0,0\n0.06,1,0\n";
-
-const CAM_REPORT: &[u8] = b"1 0 C+ open 3:1:0 0:0:0
+const CAM_REPORT: &str = "1 0 C+ open 3:1:0 0:0:0
 2 30000000000000 C+ open 2:1:0 3:1:0
 3 45000000000000 1+ at 1 slot 2
 4 60000000000000 C+ at 2 slot 4
 ";
 
-const PLAIN: &[&str] = &["replay", "wheel", "capture"];
-
-/// Options and a capture, and the report and the line on notes.
-type Case = (
-    &'static [&'static str],
-    &'static [u8],
-    &'static [u8],
-    &'static [u8],
-);
-
-/// Captures in CSV, the fault of each with its line.
-const ROWS: [Case; 14] = [
-    (PLAIN, b"\n", b"", b"capture: no column time\n"),
-    (
-        &["replay", "wheel", "capture", "--cam1", "a"],
-        b"t,crank\n0,0\n",
-        b"",
-        b"capture: no column cam1\n",
-    ),
-    (
-        &["replay", "wheel", "capture", "--cam2", "a"],
-        b"t,crank\n0,0\n",
-        b"",
-        b"capture: no column cam2\n",
-    ),
-    (
-        &["replay", "wheel", "capture", "--time", "t"],
-        b"t,t,crank\n",
-        b"",
-        b"capture: two columns time\n",
-    ),
-    (
-        PLAIN,
-        b"t,crank,crank\n",
-        b"",
-        b"capture: two columns crank\n",
-    ),
-    (PLAIN, b"t,crank\n0,0\n1\n", b"", b"capture: short row 3\n"),
-    (
-        PLAIN,
-        b"t,crank\n0,0\n1e,1\n",
-        b"",
-        b"capture: bad time row 3\n",
-    ),
-    (
-        PLAIN,
-        b"t,crank\n-0.001,0\n0,1\n1,0\n1000000000.5,1\n",
-        b"1 0 C+ open 2:0:0 0:0:0\n",
-        b"capture: time too large row 5\n",
-    ),
-    (
-        PLAIN,
-        b"t,crank\n0,0\n1e-16,1\n",
-        b"",
-        b"capture: time too fine row 3\n",
-    ),
-    (
-        PLAIN,
-        b"t,crank\n-0.001,0\n0,1\n1,0\n0.9,1\n",
-        b"1 0 C+ open 2:0:0 0:0:0\n",
-        b"capture: time falls row 5\n",
-    ),
-    // the edge at 1 ms is in the stamp that is open at the fault
-    (
-        PLAIN,
-        b"t,crank\n0,0\n0.001,1\n0.002,x\n",
-        b"",
-        b"capture: bad level crank row 4\n",
-    ),
-    (
-        &["replay", "wheel", "capture", "--cam1", "a"],
-        b"t,crank,a\n0,0,2\n",
-        b"",
-        b"capture: bad level cam1 row 2\n",
-    ),
-    // a dump begins with a dollar sign past white space alone
-    (
-        PLAIN,
-        b"x $timescale 1ms $end\n",
-        b"",
-        b"capture: no column crank\n",
-    ),
-    (PLAIN, b" \n\t", b"", b"capture: no column crank\n"),
-];
-
-/// Value change dumps, the fault of each with its line. A header of one signal has 66 bytes.
-const DUMPS: [Case; 14] = [
-    (
-        PLAIN,
-        b"$enddefinitions $end\n",
-        b"",
-        b"capture: no timescale\n",
-    ),
-    (
-        PLAIN,
-        b"$timescale 1ms $end\nx\n",
-        b"",
-        b"capture: bad token byte 20\n",
-    ),
-    (
-        PLAIN,
-        b"$timescale 1ms $end $var wire 1 ! crank $end $enddefinitions $end\n#5\n#4\n",
-        b"",
-        b"capture: time falls byte 69\n",
-    ),
-    (
-        PLAIN,
-        b"$timescale 1ms $end $var wire 1 ! crank $end $enddefinitions $end\n#0\n0!\n#1\n1!\n#2\n#1000000000001\n",
-        b"1 1000000000000 C+ open 2:0:0 0:0:0\n",
-        b"capture: time too large byte 81\n",
-    ),
-    // the edge at 1 ms is in the stamp that is open at the fault
-    (
-        PLAIN,
-        b"$timescale 1ms $end $var wire 1 ! crank $end $enddefinitions $end\n#0\n0!\n#1\n1!\n#\n",
-        b"",
-        b"capture: bad token byte 78\n",
-    ),
-    (
-        &["replay", "wheel", "capture", "--crank", "top"],
-        DUMP,
-        b"",
-        b"capture: no signal crank\n",
-    ),
-    (
-        &["replay", "wheel", "capture", "--cam1", "a"],
-        DUMP,
-        b"",
-        b"capture: no signal cam1\n",
-    ),
-    (
-        &["replay", "wheel", "capture", "--cam2", "a"],
-        DUMP,
-        b"",
-        b"capture: no signal cam2\n",
-    ),
-    (
-        PLAIN,
-        b"$timescale 1ms $end $var wire 1 ! crank $end $var wire 1 \" crank $end $enddefinitions $end\n",
-        b"",
-        b"capture: two signals crank\n",
-    ),
-    (
-        PLAIN,
-        b"$timescale 1ms $end $var wire 2 ! crank $end $enddefinitions $end\n",
-        b"",
-        b"capture: wide signal crank\n",
-    ),
-    (PLAIN, b"$", b"", b"capture: cut byte 1\n"),
-    (
-        PLAIN,
-        b"$timescale 1ms $end $var wire 1 ! crank $end $enddefinitions $end\nb1",
-        b"",
-        b"capture: cut byte 68\n",
-    ),
-    // the column of times has no part in a dump
-    (
-        &["replay", "wheel", "capture", "--time", "t"],
-        b"$timescale 1ms $end $var wire 1 ! crank $end $enddefinitions $end\n1",
-        b"",
-        b"capture: cut byte 66\n",
-    ),
-    (
-        PLAIN,
-        b"  $timescale 1ms $end $enddefinitions $end\n",
-        b"",
-        b"capture: no signal crank\n",
-    ),
-];
-
-/// Captures that are accepted, with their reports.
-const ACCEPTED: [Case; 7] = [
-    (PLAIN, DUMP, DUMP_REPORT, b""),
-    (
-        &["replay", "wheel", "capture", "--crank", "top.crank"],
-        DUMP,
-        DUMP_REPORT,
-        b"",
-    ),
-    (
-        &["replay", "wheel", "capture", "--crank", "alias"],
-        DUMP,
-        DUMP_REPORT,
-        b"",
-    ),
-    // two channels of one signal
-    (
-        &["replay", "wheel", "capture", "--cam1", "top.alias"],
-        b"$timescale 10 us $end $scope module top $end $var wire 1 ! crank $end $var wire 1 ! alias $end $enddefinitions $end 0! #100 1! #101",
-        b"1 1000000000000 C+1+ lost\n",
-        b"",
-    ),
-    // blanks come first
-    (
-        PLAIN,
-        b" \t\r\n$timescale 1ms $end $var wire 1 ! crank $end $enddefinitions $end 0! #1 1!",
-        b"1 1000000000000 C+ open 2:0:0 0:0:0\n",
-        b"",
-    ),
-    // a dump without changes
-    (
-        PLAIN,
-        b"$timescale 1ms $end $var wire 1 ! crank $end $enddefinitions $end",
-        b"",
-        b"",
-    ),
-    // times with exponents
-    (
-        PLAIN,
-        b"t,crank\n-1e-3,0\n0e9,1\n1e-3,0\n15E-3,1\n1.6e-2,0\n.003e+1,1\n31e-03,0\n6e-2,1\n61000e-6,0\n",
-        FOUND_REPORT,
-        b"",
-    ),
-];
+const DUMP_REPORT: &str = "1 10000000000000 C+ open 2:0:0 0:0:0
+2 30000000000000 C+ open 1:0:0 2:0:0
+";
 
 #[test]
 fn a_fault_comes_after_the_lines_before_it(rt: HostRuntime) -> Result<(), Fail> {
-    let refused = Status::Refused;
-    for (cases, status) in [
-        (ROWS.as_slice(), refused),
-        (DUMPS.as_slice(), refused),
-        (ACCEPTED.as_slice(), Status::Done),
-    ] {
-        for (words, capture, report, line) in cases {
-            let end = replayed(rt.alloc(), words, (THREE_TEETH, capture), &[], &[])?;
-            assert_eq!(rt; end.notes.bytes(), *line);
-            assert_eq!(rt; end.out.bytes(), *report);
-            assert_eq!(rt; end.status, status);
+    let (wrong, count) = differing(rt.alloc(), ROWS)?;
+    assert_eq!(rt; wrong.as_str(), "");
+    assert_eq!(rt; count, 15);
+    let (wrong, count) = differing(rt.alloc(), DUMPS)?;
+    assert_eq!(rt; wrong.as_str(), "");
+    assert_eq!(rt; count, 20);
+    Ok(())
+}
+
+/// The place in front of which some prefix of a capture is told wrong: neither done without a word on notes nor refused with one, or
+/// with lines that are not the first ones of the report.
+fn wrong_prefix(
+    alloc: Global,
+    wheel: &str,
+    capture: &str,
+    report: &str,
+) -> Result<Option<usize>, Fail> {
+    let capture = capture.as_bytes();
+    for length in 0..capture.len() {
+        let files = (wheel.as_bytes(), &capture[..length]);
+        let ran = replayed(alloc, "replay wheel capture", files, &[], &[])?;
+        let right = match ran.status {
+            Status::Done => ran.notes.bytes().is_empty(),
+            Status::Refused => !ran.notes.bytes().is_empty(),
+            _ => false,
+        };
+        if !right || !report.as_bytes().starts_with(ran.out.bytes()) {
+            return Ok(Some(length));
         }
     }
-    // The last token but for its last byte.
-    let end = replayed(rt.alloc(), PLAIN, (THREE_TEETH, &DUMP[..182]), &[], &[])?;
-    assert_eq!(rt; end.status, refused);
-    assert_eq!(rt;
-        end.out.bytes(),
-        b"1 10000000000000 C+ open 2:0:0 0:0:0\n".as_slice()
-    );
-    assert_eq!(rt; end.notes.bytes(), b"capture: cut byte 181\n".as_slice());
-    Ok(())
+    Ok(None)
 }
 
 #[test]
 fn prefixes_have_prefixes_of_the_report(rt: HostRuntime) -> Result<(), Fail> {
-    for (wheel, capture, report) in [
-        (BETWEEN, CAM_ROWS, CAM_REPORT),
-        (THREE_TEETH, DUMP, DUMP_REPORT),
-    ] {
-        for length in 0..capture.len() {
-            let end = replayed(rt.alloc(), PLAIN, (wheel, &capture[..length]), &[], &[])?;
-            assert!(rt;
-                end.status == Status::Done || end.status == Status::Refused,
-                "{length} bytes"
-            );
-            assert_eq!(rt;
-                end.notes.bytes().is_empty(),
-                end.status == Status::Done,
-                "{length} bytes"
-            );
-            assert!(rt; report.starts_with(end.out.bytes()), "{length} bytes");
-        }
-    }
+    let rows = wrong_prefix(rt.alloc(), BETWEEN, CAM_ROWS, CAM_REPORT)?;
+    assert_eq!(rt; rows, None);
+    let dump = wrong_prefix(rt.alloc(), THREE_TEETH, DUMP, DUMP_REPORT)?;
+    assert_eq!(rt; dump, None);
+    Ok(())
+}
+
+#[test]
+fn the_last_token_may_be_cut(rt: HostRuntime) -> Result<(), Fail> {
+    let cut = DUMP.strip_suffix("!\n").ok_or("a change at the end")?;
+    let result = told(rt.alloc(), "replay wheel capture", THREE_TEETH, cut)?;
+    assert_eq!(rt;
+        result.as_str(),
+        "1 10000000000000 C+ open 2:0:0 0:0:0␤ / Refused capture: cut byte 181␤"
+    );
     Ok(())
 }

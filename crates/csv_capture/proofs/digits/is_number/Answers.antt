@@ -1,6 +1,6 @@
 use Rattle.std.proofs.Common.{◌∙◌, ◌&&◌, Bool, sym, ap}
 use Rattle.std.specs.List.{list_all}
-use Rattle.csv_capture.specs.Times.{is_digit}
+use Rattle.capture_core.specs.Numerals.{is_digit}
 use Rattle.csv_capture.proofs.Numbers.{are_digits-append}
 use Rattle.csv_capture.proofs.digits.is_number.Goals as goal
 

@@ -2,9 +2,10 @@ use Rattle.std.proofs.Common.{◌≡◌, ◌∙◌, ℕ, ◌<◌, ◌≤◌, ◌
 use Rattle.std.specs.List.{list_all}
 use Rattle.std.proofs.lemmas.Nat.{mul-le}
 use Rattle.csv_capture.specs.Digits.{number_to}
-use Rattle.csv_capture.specs.Times.{is_digit, number, number_after}
+use Rattle.capture_core.specs.Numerals.{is_digit, number, number_after}
 use Rattle.csv_capture.proofs.Decimals.{ten_pow}
-use Rattle.csv_capture.proofs.Numbers.{digits-take, number_after-append, number_after-least, take-both}
+use Rattle.capture_core.proofs.Numerals.{number_after-append, number_after-least}
+use Rattle.csv_capture.proofs.Numbers.{digits-take, take-both}
 use Rattle.csv_capture.proofs.digits.number_to.Goals as goal
 
 -- the number of the digits before a place, in two parts

@@ -1,6 +1,6 @@
 use Rattle.std.proofs.Common.{◌^◌, arith}
 use Rattle.std.proofs.lemmas.Nat.{mul-le}
-use Rattle.csv_capture.proofs.Numbers.{ten-le}
+use Rattle.capture_core.proofs.Numerals.{ten-le}
 use Rattle.csv_capture.proofs.digits.with_zeros.Goals as goal
 
 pub returns-then-zeros-gt-LAST_ZEROS : goal.returns-then-zeros-gt-LAST_ZEROS

@@ -3,7 +3,7 @@ use Rattle.std.proofs.Common.{◌≡◌, ◌∙◌, ◌∷◌, inr, subst, rules
 use Rattle.std.specs.Io.KnownBytes.{Appends}
 use Rattle.std.proofs.lemmas.Result.{on_ok_weaker, on_err_weaker}
 use Rattle.wheel_types.specs.Texts.{line_text}
-use Rattle.wheelsync.specs.Outputs.{AppendsPrefix}
+use Rattle.run_ends.specs.Prefixes.{AppendsPrefix}
 use Rattle.wheel_types.proofs.ShapeTexts.{report_line_text-instant}
 use Rattle.wheelsync.proofs.put.put_instant.Goals as goal
 

@@ -1,6 +1,6 @@
 use Rattle.std.proofs.Common.{map, string_bytes}
 use Rattle.shelf_io.specs.Count.{Rose}
-use Rattle.wheelsync.specs.Words.{command_of}
+use Rattle.command_words.specs.Words.{command_of}
 use Rattle.wheelsync.proofs.Endings.{ends_of, out_of, notes_of, complete_of, missing_of}
 use Rattle.wheelsync.proofs.top.run.Goals as goal
 

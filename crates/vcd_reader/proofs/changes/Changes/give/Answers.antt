@@ -1,5 +1,5 @@
 use Rattle.std.proofs.Common.{◌∙◌, ap, ℕ, List}
-use Rattle.vcd_reader.specs.Texts.{same}
+use Rattle.vcd_header.specs.Texts.{same}
 use Rattle.vcd_reader.proofs.Keeping.{given_three}
 use Rattle.vcd_reader.proofs.changes.Changes.give.Goals as goal
 

@@ -1,6 +1,6 @@
 use Rattle.std.proofs.Common.{◌≡◌, ◌≤◌, ◌++◌, ◌∷◌, [], List, length, ap, sym, ◌∙◌, subst, None, refl, rules}
 use Rattle.wheel_types.specs.declared.instant.Instant.{Instant}
-use Rattle.vcd_reader.specs.declared.signals.Signals.{Signals}
+use Rattle.vcd_header.specs.declared.signals.Signals.{Signals}
 use Rattle.vcd_reader.specs.Dumps.{Outcome, after_token, fault_of, reading_of}
 use Rattle.vcd_reader.specs.Streams.{Ends}
 use Rattle.vcd_reader.specs.Tokens.{begun}

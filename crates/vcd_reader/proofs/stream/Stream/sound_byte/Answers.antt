@@ -1,7 +1,7 @@
 use Rattle.std.proofs.Common.{◌≡◌, ◌+◌, sym, ◌∙◌, ap, subst, true, false, rules}
 use Rattle.std.specs.List.{fold}
 use Rattle.vcd_reader.specs.declared.token.Token.{Token}
-use Rattle.vcd_reader.specs.declared.signals.Signals.{Signals}
+use Rattle.vcd_header.specs.declared.signals.Signals.{Signals}
 use Rattle.vcd_reader.specs.White.{is_white}
 use Rattle.vcd_reader.specs.Tokens.{begun, ended, last_open, with_byte}
 use Rattle.vcd_reader.specs.Dumps.{after_token, after_tokens, reading_of}

@@ -1,0 +1,7 @@
+mod Fronts
+mod Passing
+mod Runs
+mod EntryValues
+mod EntryParts
+mod EntrySlots
+mod Pieces

@@ -1,0 +1,4 @@
+pub mod Same
+pub mod Options
+pub mod Spoken
+pub mod Words

@@ -1,0 +1,45 @@
+-- What the words of a replay give, past the command.
+use Rattle.std.specs.Prelude.{ℕ, List, [], ◌∷◌, Some, None, option_map, option_and_then, if◌then◌else◌}
+use Rattle.std.specs.declared.option.Option.{Option}
+use Rattle.command_words.specs.declared.options.OptionName.{OptionName}
+use Rattle.command_words.specs.declared.spoken.Spoken.{Spoken as Borrowed}
+use Rattle.command_words.specs.Options.{Options, no_options, options_of, option_named, with_option}
+use Rattle.command_words.specs.Same.{is_option, is_operand}
+
+-- the operands in order, the options, and the option that still wants its value
+pub record Spoken : Type 0 where
+  pub model : Option (List ℕ)
+  pub capture : Option (List ℕ)
+  pub options : Options
+  pub wants : Option OptionName
+
+-- before the first word
+abbrev pub silence : Spoken
+silence = record { model = None; capture = None; options = no_options; wants = None }
+
+-- the texts of borrowed words
+abbrev pub spoken_of : Borrowed → Spoken
+spoken_of s = record { model = option_map (λ t. t.now) s.model; capture = option_map (λ t. t.now) s.capture; options = options_of s.options; wants = s.wants }
+
+-- one more operand, of which there are at most two
+abbrev pub with_operand : Spoken → Option (List ℕ) → Option (List ℕ) → List ℕ → Option Spoken
+with_operand s None capture word = Some (record s { model = Some word })
+with_operand s (Some model) None word = Some (record s { capture = Some word })
+with_operand s (Some model) (Some capture) word = None
+
+-- a word that no option wants: an option's name, or an operand
+abbrev pub with_word : Spoken → List ℕ → Option Spoken
+with_word s word =
+    if is_option word then option_map (λ name. record s { wants = Some name }) (option_named word)
+    else if is_operand word then with_operand s s.model s.capture word
+    else None
+
+-- one more word, whatever it is where an option wants it
+abbrev pub after_word : Spoken → Option OptionName → List ℕ → Option Spoken
+after_word s None word = with_word s word
+after_word s (Some name) word = option_map (λ o. record s { options = o; wants = None }) (with_option s.options name word)
+
+-- all words, one after the other
+abbrev pub after_words : Spoken → List (List ℕ) → Option Spoken
+after_words s [] = Some s
+after_words s (word ∷ words) = option_and_then (λ t. after_words t words) (after_word s s.wants word)

@@ -1,0 +1,11 @@
+//! The words of a command line.
+#![tactic(auto)]
+
+mod options;
+mod spoken;
+#[cfg(test)]
+mod tests;
+mod words;
+
+pub use options::{OptionName, Options};
+pub use words::{Command, read_command};

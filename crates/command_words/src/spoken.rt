@@ -1,0 +1,112 @@
+//! The words of a replay, past the command.
+ghost use Rattle.std.specs.Prelude.{◌≡◌, map, string_bytes};
+ghost use Rattle.std.specs.Option.{option_map};
+ghost use Rattle.command_words.specs.Same.{is_option as begins_with_dashes, is_operand as names_something};
+ghost use Rattle.command_words.specs.Spoken.{spoken_of, silence, with_word, with_operand as with_one_more, after_word, after_words};
+
+use crate::options::{OptionName, Options, option_name};
+
+/// What the words give so far: the operands in order, the options, and the option that still wants its value.
+#[derive(Clone, Copy, Debug)]
+pub struct Spoken<'a> {
+    pub model: Option<&'a str>,
+    pub capture: Option<&'a str>,
+    pub options: Options<'a>,
+    pub wants: Option<OptionName>,
+}
+
+/// Whether a word begins with two dashes.
+fn is_option(word: &str) -> bool
+    ensures { result ≡ begins_with_dashes word.now }
+{
+    match word.as_bytes() {
+        [] => false,
+        [_] => false,
+        [first, second, ..] => *first == b'-' && *second == b'-',
+    }
+}
+
+/// Whether a word is an operand: it is not empty, and no option.
+pub(crate) fn is_operand(word: &str) -> bool
+    ensures { result ≡ names_something word.now }
+{
+    match word.as_bytes() {
+        [] => false,
+        [_] => true,
+        [first, second, ..] => !(*first == b'-' && *second == b'-'),
+    }
+}
+
+impl<'a> Spoken<'a> {
+    /// One more operand, of which there are at most two.
+    fn with_operand(self, word: &'a str) -> Option<Spoken<'a>>
+        ensures { option_map spoken_of result ≡ with_one_more (spoken_of self.entry) (spoken_of self.entry).model (spoken_of self.entry).capture word.now }
+    {
+        match (self.model, self.capture) {
+            (None, _) => Some(Spoken {
+                model: Some(word),
+                ..self
+            }),
+            (Some(_), None) => Some(Spoken {
+                capture: Some(word),
+                ..self
+            }),
+            (Some(_), Some(_)) => None,
+        }
+    }
+
+    /// One more word, which no option wants.
+    fn with_word(self, word: &'a str) -> Option<Spoken<'a>>
+        ensures { option_map spoken_of result ≡ with_word (spoken_of self.entry) word.now }
+    {
+        if is_option(word) {
+            match option_name(word) {
+                Some(name) => Some(Spoken {
+                    wants: Some(name),
+                    ..self
+                }),
+                None => None,
+            }
+        } else if is_operand(word) {
+            self.with_operand(word)
+        } else {
+            None
+        }
+    }
+
+    /// One more word.
+    fn after(self, word: &'a str) -> Option<Spoken<'a>>
+        ensures { option_map spoken_of result ≡ after_word (spoken_of self.entry) self.entry.wants word.now }
+    {
+        match self.wants {
+            None => self.with_word(word),
+            Some(name) => match self.options.with(name, word) {
+                Some(options) => Some(Spoken {
+                    options,
+                    wants: None,
+                    ..self
+                }),
+                None => None,
+            },
+        }
+    }
+}
+
+/// What words give, or nothing where one of them cannot stand where it does.
+pub fn hear(words: &[String]) -> Option<Spoken<'_>>
+    ensures { option_map spoken_of result ≡ after_words silence (map string_bytes words.now) }
+{
+    let mut spoken = Spoken {
+        model: None,
+        capture: None,
+        options: Options::none(),
+        wants: None,
+    };
+    for word in words {
+        spoken = match spoken.after(word.as_str()) {
+            Some(next) => next,
+            None => return None,
+        };
+    }
+    Some(spoken)
+}

@@ -1,0 +1,4 @@
+pub mod Notes
+pub mod Statuses
+pub mod Prefixes
+pub mod Finishing

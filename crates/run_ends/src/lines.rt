@@ -1,0 +1,199 @@
+//! The line of a cause on notes. It is made without taking memory.
+ghost use Rattle.std.specs.Prelude.{◌≡◌, ◌≤◌, ◌+◌, ◌++◌, length, decimal};
+ghost use Rattle.arrayvec.specs.ArrayString.{array_string_len};
+ghost use Rattle.run_ends.specs.Notes.{line, line_with, line_at, line_with_at, channel_text, column_text, wheel_line, pattern_line, table_line, csv_line, vcd_line, note_of};
+
+use crate::Cause;
+use arrayvec::ArrayString;
+use capture_core::{Column, CsvFault, VcdFault};
+use itoa::Buffer;
+use wheel_pattern::{PatternFault, TableFault};
+use wheel_types::{Channel, WheelFault};
+
+/// A line of at most 64 bytes.
+pub type Line = ArrayString<64>;
+
+/// A text and a line feed.
+fn plain(text: &str) -> Line
+    requires { length text.now ≤ 63 }
+    ensures { result.bytes ≡ line text.now }
+{
+    let mut line = ArrayString::new();
+    line.push_str(text);
+    line.push_str("\n");
+    line
+}
+
+/// A text, a word and a line feed.
+fn with_word(text: &str, word: &str) -> Line
+    requires { length text.now + length word.now ≤ 63 }
+    ensures { result.bytes ≡ line_with text.now word.now }
+{
+    let mut line = ArrayString::new();
+    line.push_str(text);
+    line.push_str(word);
+    line.push_str("\n");
+    line
+}
+
+/// Puts a number at the end of a line.
+fn push_number(line: &mut Line, number: u64)
+    requires { array_string_len line.old + 20 ≤ 64 }
+    ensures bytes { line.new.bytes ≡ line.old.bytes ++ decimal number }
+    ensures room { array_string_len line.new ≤ array_string_len line.old + 20 }
+{
+    let mut buffer = Buffer::new();
+    line.push_str(buffer.format(number));
+}
+
+/// A text, a number and a line feed.
+fn with_number(text: &str, number: u64) -> Line
+    requires { length text.now ≤ 43 }
+    ensures { result.bytes ≡ line_at text.now number }
+{
+    let mut line = ArrayString::new();
+    line.push_str(text);
+    push_number(&mut line, number);
+    line.push_str("\n");
+    line
+}
+
+/// A text, a word, a text, a number and a line feed.
+fn with_word_and_number(text: &str, word: &str, more: &str, number: u64) -> Line
+    requires { length text.now + length word.now + length more.now ≤ 43 }
+    ensures { result.bytes ≡ line_with_at text.now word.now more.now number }
+{
+    let mut line = ArrayString::new();
+    line.push_str(text);
+    line.push_str(word);
+    line.push_str(more);
+    push_number(&mut line, number);
+    line.push_str("\n");
+    line
+}
+
+/// The name of a channel.
+fn channel_name(channel: Channel) -> &'static str
+    ensures name { result.now ≡ channel_text channel }
+    ensures short { length result.now ≤ 5 }
+{
+    match channel {
+        Channel::Crank => "crank",
+        Channel::Cam1 => "cam1",
+        Channel::Cam2 => "cam2",
+    }
+}
+
+/// The name of a column.
+fn column_name(column: Column) -> &'static str
+    ensures name { result.now ≡ column_text column }
+    ensures short { length result.now ≤ 5 }
+{
+    match column {
+        Column::Time => "time",
+        Column::Crank => "crank",
+        Column::Cam1 => "cam1",
+        Column::Cam2 => "cam2",
+    }
+}
+
+/// The line of the rule of a wheel that is broken.
+fn wheel_note(fault: WheelFault) -> Line
+    ensures { result.bytes ≡ wheel_line fault }
+{
+    match fault {
+        WheelFault::Degrees => plain("wheel: degrees"),
+        WheelFault::SlotCount => plain("wheel: slot count"),
+        WheelFault::SlotValue { at } => with_number("wheel: slot value ", at),
+        WheelFault::Phasing { cam } => with_word("wheel: phasing ", channel_name(cam)),
+        WheelFault::Rpm => plain("wheel: rpm"),
+        WheelFault::Ratio => plain("wheel: ratio"),
+        WheelFault::NoCrankEdge => plain("wheel: no crank edge"),
+    }
+}
+
+/// The line of a fault of a wheel file.
+fn pattern_note(fault: PatternFault) -> Line
+    ensures { result.bytes ≡ pattern_line fault }
+{
+    match fault {
+        PatternFault::NotToml => plain("wheel: not toml"),
+        PatternFault::UnknownKey => plain("wheel: unknown key"),
+        PatternFault::BothForms => plain("wheel: both forms"),
+        PatternFault::MissingKey { key } => with_word("wheel: missing key ", key.text()),
+        PatternFault::BadValue { key } => with_word("wheel: bad value ", key.text()),
+        PatternFault::Wheel(fault) => wheel_note(fault),
+        PatternFault::Memory => plain("want of memory"),
+    }
+}
+
+/// The line of a fault of a C source.
+fn table_note(fault: TableFault) -> Line
+    ensures { result.bytes ≡ table_line fault }
+{
+    match fault {
+        TableFault::NoArray => plain("table: no array"),
+        TableFault::TwoArrays => plain("table: two arrays"),
+        TableFault::BadText { at } => with_number("table: bad text ", at),
+        TableFault::SlotValue { at } => with_number("table: slot value ", at),
+        TableFault::Memory => plain("want of memory"),
+    }
+}
+
+/// The line of the first fault of a capture in CSV.
+fn csv_note(fault: CsvFault) -> Line
+    ensures { result.bytes ≡ csv_line fault }
+{
+    match fault {
+        CsvFault::NoColumn { column } => with_word("capture: no column ", column_name(column)),
+        CsvFault::TwoColumns { column } => with_word("capture: two columns ", column_name(column)),
+        CsvFault::ShortRow { row } => with_number("capture: short row ", row),
+        CsvFault::BadTime { row } => with_number("capture: bad time row ", row),
+        CsvFault::TimeTooLarge { row } => with_number("capture: time too large row ", row),
+        CsvFault::TimeTooFine { row } => with_number("capture: time too fine row ", row),
+        CsvFault::TimeFalls { row } => with_number("capture: time falls row ", row),
+        CsvFault::BadLevel { row, column } => {
+            with_word_and_number("capture: bad level ", column_name(column), " row ", row)
+        }
+    }
+}
+
+/// The line of the first fault of a value change dump.
+fn vcd_note(fault: VcdFault) -> Line
+    ensures { result.bytes ≡ vcd_line fault }
+{
+    match fault {
+        VcdFault::NoTimescale => plain("capture: no timescale"),
+        VcdFault::BadToken { at } => with_number("capture: bad token byte ", at),
+        VcdFault::TimeFalls { at } => with_number("capture: time falls byte ", at),
+        VcdFault::TimeTooLarge { at } => with_number("capture: time too large byte ", at),
+        VcdFault::NoSuchSignal { channel } => {
+            with_word("capture: no signal ", channel_name(channel))
+        }
+        VcdFault::TwoSignals { channel } => {
+            with_word("capture: two signals ", channel_name(channel))
+        }
+        VcdFault::WideSignal { channel } => {
+            with_word("capture: wide signal ", channel_name(channel))
+        }
+        VcdFault::Cut { at } => with_number("capture: cut byte ", at),
+    }
+}
+
+/// The line of a cause, with its line feed. Bytes and entries are counted from 0, rows from 1.
+pub fn note(cause: Cause) -> Line
+    ensures { result.bytes ≡ note_of cause }
+{
+    match cause {
+        Cause::Usage => plain("usage"),
+        Cause::Wheel(fault) => pattern_note(fault),
+        Cause::TooManyPlaces => plain("limit: places"),
+        Cause::Table(fault) => table_note(fault),
+        Cause::Csv(fault) => csv_note(fault),
+        Cause::Vcd(fault) => vcd_note(fault),
+        Cause::ReadFault => plain("read fault"),
+        Cause::WriteFault => plain("write fault"),
+        Cause::Memory => plain("want of memory"),
+        Cause::FileLimit => plain("limit: file"),
+    }
+}

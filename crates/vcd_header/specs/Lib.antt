@@ -1,0 +1,6 @@
+pub mod Texts
+pub mod Timescales
+pub mod Headers
+pub mod Signals
+pub mod Values
+pub mod Words

@@ -1,5 +1,0 @@
-use Rattle.wheel_pattern.proofs.Pieces.{tokens-are_pieces}
-use Rattle.wheel_pattern.proofs.token_laws.tokens_are_pieces.Goals as goal
-
-pub returns : goal.returns
-returns c = tokens-are_pieces

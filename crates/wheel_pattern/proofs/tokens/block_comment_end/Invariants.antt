@@ -1,6 +1,0 @@
-use Rattle.std.proofs.Common.{◌≡◌, drop}
-use Rattle.wheel_pattern.specs.Tokens.{tokens_from, in_block_comment}
-use Rattle.wheel_pattern.proofs.tokens.block_comment_end.Given as goal
-
-abbrev pub invariant-bytes : goal.invariant-bytes
-invariant-bytes l = tokens_from in_block_comment l.fn.from (drop l.fn.from l.source) ≡ tokens_from in_block_comment l.at (drop l.at l.source)
