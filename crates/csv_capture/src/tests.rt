@@ -34,16 +34,24 @@ pub const CRANK: Watch = Watch {
     cam2: None,
 };
 
+/// A text of its own, where one is given.
+fn owned(alloc: Global, text: Option<&str>) -> Result<Option<String>, AllocError> {
+    match text {
+        Some(text) => Ok(Some(String::from_str(alloc, text)?)),
+        None => Ok(None),
+    }
+}
+
 fn names(alloc: Global, called: Called) -> Result<Names, AllocError> {
-    let time = match called.time {
-        Some(time) => Some(String::from_str(alloc, time)?),
-        None => None,
-    };
+    let time = owned(alloc, called.time)?;
+    let crank = String::from_str(alloc, called.crank)?;
+    let cam1 = String::from_str(alloc, called.cam1)?;
+    let cam2 = String::from_str(alloc, called.cam2)?;
     Ok(Names {
         time,
-        crank: String::from_str(alloc, called.crank)?,
-        cam1: String::from_str(alloc, called.cam1)?,
-        cam2: String::from_str(alloc, called.cam2)?,
+        crank,
+        cam1,
+        cam2,
     })
 }
 

@@ -5,9 +5,9 @@ ghost use Rattle.wheel_types.specs.Motions.{KeepsSpeed, KeepsRatio, slots_betwee
 ghost use Rattle.wheel_types.specs.Steps.{KeepsGaps};
 ghost use Rattle.plain_motion.specs.Windows.{times_of, AreSmall, IsSmall};
 
-use crate::bounds::{keeps_ratio, keeps_speed};
 use crate::motions::Motions;
 use crate::window::CrankTimes;
+use motion_bounds::{keeps_ratio, keeps_speed};
 use wheel_types::Channel;
 
 /// Femtoseconds from one time to another.

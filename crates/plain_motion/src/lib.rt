@@ -1,7 +1,6 @@
 //! Sets of places, stepped once for each instant: what the edges prove about an engine's position.
 #![tactic(auto)]
 
-mod bounds;
 mod gaps;
 mod laws;
 mod least;
@@ -13,7 +12,6 @@ mod tests;
 mod window;
 mod windows;
 
-pub use bounds::{ratio_ok, speed_ok};
 pub use cam_ranges::PlaceFault;
 pub use laws::{
     ends_are_steps, one_kind, one_verdict, one_window, start_and_end, verdicts_are_one,

@@ -2,3 +2,4 @@ pub mod Notes
 pub mod Statuses
 pub mod Prefixes
 pub mod Finishing
+pub mod Noted

@@ -1,6 +1,6 @@
 //! The end of a run: its line on notes and its status.
 ghost use Rattle.std.specs.Prelude.{◌≡◌, ◌≤◌};
-ghost use Rattle.shelf_io.specs.Count.{Rose};
+ghost use Rattle.shelf_traits.specs.Count.{Rose};
 ghost use Rattle.run_ends.specs.Statuses.{status_of};
 ghost use Rattle.run_ends.specs.Finishing.{HasFinished};
 

@@ -1,2 +1,3 @@
 pub mod FileNames
 pub mod DumpCaptures
+pub mod Ready

@@ -2,3 +2,4 @@ pub mod Files
 pub mod Loading
 pub mod Causes
 pub mod Models
+pub mod Complete

@@ -1,6 +1,6 @@
 -- What calls keep that open files and read them.
 use Rattle.std.specs.Prelude.{◌≡◌, ◌≤◌, ◌⊎◌, IsTrue}
-use Rattle.shelf_io.specs.Shelf.{View}
+use Rattle.shelf_traits.specs.Shelf.{View}
 use Rattle.wheel_pattern.specs.declared.fault.PatternFault.{PatternFault}
 use Rattle.c_tables.specs.declared.fault.TableFault.{TableFault}
 use Rattle.run_ends.specs.declared.cause.Cause.{Cause}

@@ -1,6 +1,6 @@
 //! Loading the files that a command names.
 ghost use Rattle.std.specs.Prelude.{◌≡◌, ◌≤◌, ◌<◌, ◌^◌, length, IsTrue, IfOk, IfErr, IsErrOf, None, true, false};
-ghost use Rattle.shelf_io.specs.Count.{Rose};
+ghost use Rattle.shelf_traits.specs.Count.{Rose};
 ghost use Rattle.edge_angles.specs.EdgeTables.{AreEdgesOf};
 ghost use Rattle.command_words.specs.Options.{options_of};
 ghost use Rattle.run_files.specs.Loading.{LoadsOn, EndsLoading, EndsTable};

@@ -1,6 +1,6 @@
 //! Loading a model: its wheel, with what a replay needs of it.
 ghost use Rattle.std.specs.Prelude.{◌≡◌, ◌≤◌, ◌⊎◌, IsTrue, IfOk, IfErr, OnOk, IsErrOf, None, [], true, false};
-ghost use Rattle.shelf_io.specs.Count.{Rose};
+ghost use Rattle.shelf_traits.specs.Count.{Rose};
 ghost use Rattle.edge_angles.specs.EdgeTables.{AreEdgesOf};
 ghost use Rattle.cam_ranges.specs.Places.{HasTooMany};
 ghost use Rattle.run_files.specs.Loading.{LoadsOn, EndsModel};

@@ -1,4 +1,1 @@
 pub mod Front
-pub mod Numbers
-pub mod Names
-pub mod Views

@@ -1,18 +1,8 @@
-// The ways in which a call on a shelf or a sink can fail.
+// The ways in which a file or a text can fail to go whole.
 ghost use Rattle.std.specs.Prelude.{◌≡◌};
 ghost use Rattle.shelf_io.specs.declared.fault.LoadFault.TheVariants as load;
-ghost use Rattle.shelf_io.specs.declared.fault.IoFault.TheVariants as io;
 
 use std::alloc::{AllocError, AllocFailed};
-
-/// Why a call on a shelf or a sink did nothing.
-#[derive(Clone, Copy, Debug, PartialEq, Eq)]
-pub enum IoFault {
-    /// A fault of the files or the stream. It comes only where the count of such faults rose.
-    Failed,
-    /// Want of memory.
-    Memory,
-}
 
 /// Why a file was not read whole.
 #[derive(Clone, Copy, Debug, PartialEq, Eq)]
@@ -47,21 +37,5 @@ impl<T: Drop> From<AllocFailed<T>> for LoadFault {
 
     fn from(_: AllocFailed<T>) -> Self {
         LoadFault::Memory
-    }
-}
-
-impl From<AllocError> for IoFault {
-    ghost from_gives = { λ _ e. e ≡ io.Memory };
-
-    fn from(_: AllocError) -> Self {
-        IoFault::Memory
-    }
-}
-
-impl<T: Drop> From<AllocFailed<T>> for IoFault {
-    ghost from_gives = { λ _ e. e ≡ io.Memory };
-
-    fn from(_: AllocFailed<T>) -> Self {
-        IoFault::Memory
     }
 }

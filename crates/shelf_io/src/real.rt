@@ -1,6 +1,6 @@
 // The files of the system as a shelf.
 ghost use Rattle.std.specs.Prelude.{false, None, ◌≡◌, [], map};
-ghost use Rattle.shelf_io.specs.Count.{Fits};
+ghost use Rattle.shelf_traits.specs.Count.{Fits};
 
 use crate::{IoFault, Shelf, Way};
 use std::alloc::Global;

@@ -1,7 +1,7 @@
 // Standard output or standard error as a sink.
 ghost use Rattle.std.specs.Prelude.{◌≡◌, ◌<◌, ◌≤◌, [], length, take, drop, IfOk, OnOk};
 ghost use Rattle.std.specs.Io.KnownBytes.{Appends, Keeps, WriteAppends, append_known};
-ghost use Rattle.shelf_io.specs.Count.{Fits, HasCause};
+ghost use Rattle.shelf_traits.specs.Count.{Fits, HasCause};
 
 use crate::{IoFault, Sink};
 use std::alloc::Global;

@@ -1,8 +1,8 @@
 // Whole files and whole texts, over any shelf and any sink.
 ghost use Rattle.std.specs.Prelude.{◌≡◌, ◌<◌, ◌≤◌, ◌+◌, ◌-◌, ◌^◌, ◌↔◌, ◌++◌, [], ℕ, List, length, take, IfOk, IfErr, OnErr, OnOk, IsTrue, IsErrOf, MatchResult};
 ghost use Rattle.std.specs.Io.KnownBytes.{Appends};
-ghost use Rattle.shelf_io.specs.Count.{Rose, Fits};
-ghost use Rattle.shelf_io.specs.Shelf.{CountsFit, IsReader, IsWriter, Passed, ReadsOn, WritesOn, left_at, file_at, given_of};
+ghost use Rattle.shelf_traits.specs.Count.{Rose, Fits};
+ghost use Rattle.shelf_traits.specs.Shelf.{CountsFit, IsReader, IsWriter, Passed, ReadsOn, WritesOn, left_at, file_at, given_of};
 ghost use Rattle.shelf_io.specs.Whole.{IsGiven, PutFront, PutCause, written_of};
 
 use crate::{IoFault, LoadFault, PutFault, Shelf, Sink};

@@ -1,58 +1,24 @@
 -- From the end of the work to what the run says.
-use Rattle.std.proofs.Common.{◌≡◌, ℕ, ◌⊎◌, inl, inr, List, Option, None, Some, IfSome, IfErr, IsErrOf, Result, Ok, Err, refl, sym, ◌∙◌, subst, ap}
-use Rattle.std.specs.Prelude.{⊤}
-use Rattle.std.specs.Io.KnownBytes.{Appends, Keeps}
+use Rattle.std.proofs.Common.{◌≡◌, ℕ, ◌⊎◌, inl, inr, List, Option, None, Some, IfSome, IfErr, IsErrOf, Result, Ok, Err, sym, subst, ap}
+use Rattle.std.specs.Io.KnownBytes.{Keeps}
 use Rattle.run_ends.specs.declared.cause.Cause.{Cause}
 use Rattle.run_ends.specs.declared.cause.Cause.TheVariants as cause
 use Rattle.run_ends.specs.declared.status.Status.{Status}
 use Rattle.run_ends.specs.declared.status.Status.TheVariants as status
 use Rattle.run_files.specs.Causes.{RunGives, IsMissing}
 use Rattle.wheelsync.specs.Outputs.{GetsRefused, GetsSome}
-use Rattle.run_ends.specs.Notes.{note_of}
 use Rattle.run_ends.specs.Statuses.{status_for, status_of}
-use Rattle.wheelsync.specs.Ending.{OutGets, NotesGet}
+use Rattle.run_ends.specs.Noted.{NotesGet}
+use Rattle.wheelsync.specs.Ending.{OutGets}
 use Rattle.run_ends.specs.Finishing.{HasNoted, HasFinished}
-use Rattle.wheelsync.specs.Complete.{AreReady}
+use Rattle.run_files.specs.Complete.{AreReady}
 use Rattle.command_words.specs.Words.{Order, Replay, Import}
-use Rattle.wheelsync.proofs.Putting.{prefix_all}
-use Rattle.wheelsync.proofs.Ready.{memory_alone}
+use Rattle.run_ends.proofs.Noted.{prefix_all, notes_by, done_noted, fault_noted}
+use Rattle.run_files.proofs.Ready.{memory_alone}
 
 -- ---- what notes gets
 
-line_whole : (gives : Cause → Type 0) (wrote noted : Type 0) (old new : Option (List ℕ)) (e : Cause) → gives e → (e ≡ cause.WriteFault → wrote) → Appends old new (note_of e)
-    → NotesGet gives wrote noted old new (status_for e)
-line_whole gives wrote noted old new cause.Usage g w a = (cause.Usage, (g, (refl, a)))
-line_whole gives wrote noted old new (cause.Wheel fault) g w a = (cause.Wheel fault, (g, (refl, a)))
-line_whole gives wrote noted old new cause.TooManyPlaces g w a = (cause.TooManyPlaces, (g, (refl, a)))
-line_whole gives wrote noted old new (cause.Table fault) g w a = (cause.Table fault, (g, (refl, a)))
-line_whole gives wrote noted old new (cause.Csv fault) g w a = (cause.Csv fault, (g, (refl, a)))
-line_whole gives wrote noted old new (cause.Vcd fault) g w a = (cause.Vcd fault, (g, (refl, a)))
-line_whole gives wrote noted old new cause.ReadFault g w a = (cause.ReadFault, (g, (refl, a)))
-line_whole gives wrote noted old new cause.FileLimit g w a = (cause.FileLimit, (g, (refl, a)))
-line_whole gives wrote noted old new cause.WriteFault g w a = ((cause.WriteFault, (g, (w, prefix_all old new _ a))), inr a)
-line_whole gives wrote noted old new cause.Memory g w a = (cause.Memory, (g, (w, prefix_all old new _ a)))
-
-notes_noted : (gives : Cause → Type 0) (wrote noted : Type 0) (old new : Option (List ℕ)) (e : Cause) (s : Status) → gives e → (e ≡ cause.WriteFault → wrote) → HasNoted noted old new e s
-    → NotesGet gives wrote noted old new s
-notes_noted gives wrote noted old new e s g w (inl (is, a)) = subst (NotesGet gives wrote noted old new) (sym is) (line_whole gives wrote noted old new e g w a)
-notes_noted gives wrote noted old new e s g w (inr (inl (is, (up, front)))) = subst (NotesGet gives wrote noted old new) (sym is) ((e, (g, (w, front))), inl up)
-notes_noted gives wrote noted old new e s g w (inr (inr (is, front))) = subst (NotesGet gives wrote noted old new) (sym is) (e, (g, (w, front)))
-
--- notes gets the line of a cause that the work gave
-pub notes_by : {T : Type 0} (gives : Cause → Type 0) (wrote noted : Type 0) (old new : Option (List ℕ)) (end : Result T Cause) (s : Status) → IfErr end gives → (IsErrOf end cause.WriteFault → wrote)
-    → HasFinished noted old new end s → NotesGet gives wrote noted old new s
-notes_by gives wrote noted old new (Ok x) s g w f = subst (NotesGet gives wrote noted old new) (sym f.0) f.1
-notes_by gives wrote noted old new (Err e) s g w f = notes_noted gives wrote noted old new e s g (λ is. w (ap Err is)) f
-
-any_cause : {T : Type 0} (end : Result T Cause) → IfErr end (λ e. ⊤)
-any_cause (Ok x) = tt
-any_cause (Err e) = tt
-
-pub notes_of : {T : Type 0} (wrote noted : Type 0) (old new : Option (List ℕ)) (end : Result T Cause) (s : Status) → (IsErrOf end cause.WriteFault → wrote)
-    → HasFinished noted old new end s → NotesGet (λ e. ⊤) wrote noted old new s
-notes_of wrote noted old new end s w f = notes_by (λ e. ⊤) wrote noted old new end s (any_cause end) w f
-
--- over told files it is a cause that these give
+-- over told files it is the line of a cause that these give
 pub ends_of : {T : Type 0} (wrote noted : Type 0) (o : Option Order) (file : List ℕ → Option (List ℕ)) (old new : Option (List ℕ)) (end : Result T Cause) (s : Status)
     → IfSome o (λ order. IfErr end (RunGives file order)) → (IsErrOf end cause.WriteFault → wrote) → HasFinished noted old new end s
     → IfSome o (λ order. NotesGet (RunGives file order) wrote noted old new s)
@@ -97,11 +63,6 @@ out_of noted (Some order) file old new before after (Err e) s w f = out_noted no
 
 -- ---- when a run must be done
 
-done_noted : (noted : Type 0) (old new : Option (List ℕ)) (e : Cause) (s : Status) → ¬ noted → e ≡ cause.Memory → HasNoted noted old new e s → (s ≡ status.Done) ⊎ (s ≡ status.Memory)
-done_noted noted old new e s n is (inl (same, a)) = inr (same ∙ ap status_for is)
-done_noted noted old new e s n is (inr (inl (same, (up, front)))) = absurd (n up)
-done_noted noted old new e s n is (inr (inr (same, front))) = inr same
-
 pub complete_of : {T : Type 0} (wrote noted : Type 0) (o : Option Order) (file : List ℕ → Option (List ℕ)) (old new : Option (List ℕ)) (end : Result T Cause) (s : Status)
     → IfSome o (λ order. IfErr end (RunGives file order)) → IfSome o (λ order. IsErrOf end cause.ReadFault → IsMissing file order) → (IsErrOf end cause.WriteFault → wrote)
     → ¬ wrote → ¬ noted → HasFinished noted old new end s → IfSome o (λ order. AreReady file order → (s ≡ status.Done) ⊎ (s ≡ status.Memory))
@@ -111,23 +72,6 @@ complete_of wrote noted (Some order) file old new (Err e) s g m w n k f =
     λ ready. done_noted noted old new e s k (memory_alone file order e ready g (λ is. m (ap Err is)) (λ is. n (w (ap Err is)))) f
 
 -- ---- which file was not there
-
-read_fault : (e : Cause) → status_for e ≡ status.ReadFault → e ≡ cause.ReadFault
-read_fault cause.ReadFault is = refl
-read_fault cause.Usage is = absurd (cc)
-read_fault (cause.Wheel fault) is = absurd (cc)
-read_fault cause.TooManyPlaces is = absurd (cc)
-read_fault (cause.Table fault) is = absurd (cc)
-read_fault (cause.Csv fault) is = absurd (cc)
-read_fault (cause.Vcd fault) is = absurd (cc)
-read_fault cause.WriteFault is = absurd (cc)
-read_fault cause.Memory is = absurd (cc)
-read_fault cause.FileLimit is = absurd (cc)
-
-fault_noted : (noted : Type 0) (old new : Option (List ℕ)) (e : Cause) (s : Status) → HasNoted noted old new e s → s ≡ status.ReadFault → e ≡ cause.ReadFault
-fault_noted noted old new e s (inl (same, a)) is = read_fault e (sym same ∙ is)
-fault_noted noted old new e s (inr (inl (same, more))) is = absurd (cc)
-fault_noted noted old new e s (inr (inr (same, more))) is = absurd (cc)
 
 pub missing_of : {T : Type 0} (noted : Type 0) (o : Option Order) (file : List ℕ → Option (List ℕ)) (old new : Option (List ℕ)) (end : Result T Cause) (s : Status)
     → IfSome o (λ order. IsErrOf end cause.ReadFault → IsMissing file order) → HasFinished noted old new end s → s ≡ status.ReadFault → IfSome o (IsMissing file)

@@ -3,6 +3,5 @@ pub mod OneReport
 pub mod Reports
 pub mod WholeReports
 pub mod Putting
-pub mod Ready
 pub mod Endings
 pub mod Replays

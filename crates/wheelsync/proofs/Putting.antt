@@ -18,6 +18,7 @@ use Rattle.wheelsync.specs.Outputs.{GetsReport}
 use Rattle.wheelsync.specs.Stepping.{StandsOver, GetsLine, GetsLineFront, GetsSteppedFront}
 use Rattle.wheelsync.proofs.Sayings.{report_of}
 use Rattle.wheelsync.proofs.Reports.{one_each, report_text-next, reverse_next, reverse_take}
+use Rattle.run_ends.proofs.Noted.{prefix_all}
 
 -- the verdicts for which a set stands
 pub verdicts_over : (w : WheelParts) (set : PlainSet) (past : List Instant) (vs : List Verdict) → (s : StandsOver w set past vs) → AreVerdicts w past vs s.stands.kept.window
@@ -76,9 +77,6 @@ pub prefix_after : (old mid new : Option (List ℕ)) (done next : List ℕ) → 
 prefix_after old mid new done next p q =
     let size : length (done ++ next) ≡ length done + length next = length-append done next in
     (length done + q.0, (omega (arith, size, q.1.0), subst (Appends old new) (sym (take-append-add done next q.0)) (Appends-trans old mid new done (take q.0 next) p q.1.1)))
-
-pub prefix_all : (old new : Option (List ℕ)) (text : List ℕ) → Appends old new text → AppendsPrefix old new text
-prefix_all old new text a = (length text, (omega arith, subst (Appends old new) (sym (take-length text)) a))
 
 -- a report that stops in the midst of a line, or before it
 pub stopped : (w : WheelParts) (first before : PlainSet) (old mid new : Option (List ℕ)) (is : List Instant) (k : ℕ) (i : Instant) → k < length is → i ≡ get_or is k i

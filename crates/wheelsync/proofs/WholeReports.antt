@@ -50,6 +50,16 @@ prefix-append old new text rest (k, (within, grown)) =
     let size : length (text ++ rest) ≡ length text + length rest = length-append text rest in
     (k, (omega (arith, size, within), subst (Appends old new) (sym (take-append-le k text rest within)) grown))
 
+-- the report of the first instants, and that of the rest
+joined : (k : ℕ) (is : List Instant) (vs front last ends : List Verdict) (text : List ℕ) → vs ≡ front ++ last → last ≡ ends → length (take k is) ≡ length (reverse ends)
+    → text ≡ report_text 1 (take k is) (reverse ends) → report_text 1 is (reverse vs) ≡ text ++ report_text (1 + length (take k is)) (drop k is) (reverse front)
+joined k is vs front last ends text all same count first =
+    let rest : List ℕ = report_text (1 + length (take k is)) (drop k is) (reverse front) in
+    let a : reverse vs ≡ reverse ends ++ reverse front = ap reverse (all ∙ ap (λ l. front ++ l) same) ∙ reverse-append front ends in
+    let b : report_text 1 (take k is ++ drop k is) (reverse ends ++ reverse front) ≡ report_text 1 (take k is) (reverse ends) ++ rest = report_text-append 1 (take k is) (drop k is) (reverse ends) (reverse front) count in
+    let c : report_text 1 is (reverse ends ++ reverse front) ≡ report_text 1 (take k is) (reverse ends) ++ rest = subst (λ l. report_text 1 l (reverse ends ++ reverse front) ≡ report_text 1 (take k is) (reverse ends) ++ rest) (take-append-drop k is) b in
+    ap (report_text 1 is) a ∙ c ∙ ap (λ t. t ++ rest) (sym first)
+
 -- what was written of the first instants is a prefix of the whole report
 pub front_of_whole : (w : WheelParts) (is : List Instant) (old new : Option (List ℕ)) → IsWheel w → IsRising is → GetsSteppedFront old new w is → GetsFront old new w is
 front_of_whole w is old new wheel rising (k, (text, (within, (r, grown)))) =
@@ -60,10 +70,5 @@ front_of_whole w is old new wheel rising (k, (text, (within, (r, grown)))) =
     let same : s.rest ≡ r.verdicts = (verdicts_determined w (reverse (take k is)) s.rest r.verdicts s.window r.next wheel.crank_edge s.verdicts here).0 in
     let count : length (take k is) ≡ length (reverse r.verdicts) = sym (length-reverse (take k is)) ∙ one_each w (reverse (take k is)) r.verdicts r.next here ∙ sym (length-reverse r.verdicts) in
     let rest : List ℕ = report_text (1 + length (take k is)) (drop k is) (reverse s.front) in
-    let all : report_text 1 is (reverse whole.verdicts) ≡ text ++ rest =
-    ap (λ vs. report_text 1 is (reverse vs)) (s.all ∙ ap (λ l. s.front ++ l) same)
-    ∙ ap (λ l. report_text 1 is l) (reverse-append s.front r.verdicts)
-    ∙ ap (λ l. report_text 1 l (reverse r.verdicts ++ reverse s.front)) (sym (take-append-drop k is))
-    ∙ report_text-append 1 (take k is) (drop k is) (reverse r.verdicts) (reverse s.front) count
-    ∙ ap (λ t. t ++ rest) (sym r.nothing_else) in
+    let all : report_text 1 is (reverse whole.verdicts) ≡ text ++ rest = joined k is whole.verdicts s.front s.rest r.verdicts text s.all same count r.nothing_else in
     (report_text 1 is (reverse whole.verdicts), (report_of w is _ whole.verdicts whole.window whole.are refl, subst (AppendsPrefix old new) (sym all) (prefix-append old new text rest grown)))

@@ -4,5 +4,4 @@ pub mod Headline
 pub mod Outputs
 pub mod Stepping
 pub mod Ending
-pub mod Complete
 pub mod Laws

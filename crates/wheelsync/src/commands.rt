@@ -1,6 +1,6 @@
 //! Serving a command.
 ghost use Rattle.std.specs.Prelude.{◌≡◌, ◌≤◌, map, string_bytes, ◌↔◌, IsTrue, IfErr, IfSome, IsErrOf, Err, None};
-ghost use Rattle.shelf_io.specs.Count.{Rose};
+ghost use Rattle.shelf_traits.specs.Count.{Rose};
 ghost use Rattle.run_files.specs.Loading.{LoadsOn};
 ghost use Rattle.run_files.specs.Causes.{RunGives, IsMissing};
 ghost use Rattle.run_ends.specs.Statuses.{status_of};

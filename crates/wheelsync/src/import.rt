@@ -1,6 +1,6 @@
 //! The command `import`.
 ghost use Rattle.std.specs.Prelude.{◌≡◌, ◌≤◌, ◌⊎◌, IsTrue, IfErr, IfOk, IsErrOf, Some, None};
-ghost use Rattle.shelf_io.specs.Count.{Rose};
+ghost use Rattle.shelf_traits.specs.Count.{Rose};
 ghost use Rattle.run_files.specs.Loading.{LoadsOn};
 ghost use Rattle.run_files.specs.Causes.{RunGives, IsMissing};
 ghost use Rattle.run_ends.specs.Statuses.{status_of};

@@ -1,7 +1,7 @@
 //! Writing a report line by line.
 ghost use Rattle.std.specs.Prelude.{◌≡◌, ◌≤◌, ◌<◌, ◌^◌, ◌∷◌, [], ◌<ℤ◌, List, Some, None, IfOk, IfErr, IfSome, OnOk, OnErr, IsErrOf, unsigned_abs};
 ghost use Rattle.std.specs.Io.KnownBytes.{Appends};
-ghost use Rattle.shelf_io.specs.Count.{Rose};
+ghost use Rattle.shelf_traits.specs.Count.{Rose};
 ghost use Rattle.wheel_types.specs.declared.parts.WheelParts.{WheelParts};
 ghost use Rattle.wheel_types.specs.declared.instant.Instant.{Instant as Moment};
 ghost use Rattle.wheel_types.specs.declared.verdict.Verdict.{Verdict as Judgement};

@@ -1,6 +1,6 @@
 //! The command `replay`.
 ghost use Rattle.std.specs.Prelude.{◌≡◌, ◌≤◌, IsTrue, IfErr, IsErrOf, Some};
-ghost use Rattle.shelf_io.specs.Count.{Rose};
+ghost use Rattle.shelf_traits.specs.Count.{Rose};
 ghost use Rattle.run_files.specs.Loading.{LoadsOn};
 ghost use Rattle.command_words.specs.Options.{options_of};
 ghost use Rattle.run_files.specs.Causes.{RunGives, IsMissing};

@@ -173,15 +173,20 @@ fn told(alloc: Global, words: &str, wheel: &str, capture: &str) -> Result<String
     told_where(alloc, words, files, &[], &[])
 }
 
+/// The wheel of first lines that stand in front of a line end.
+fn wheel_from(alloc: Global, lines: &str) -> Result<String, AllocError> {
+    let (lines, _) = lines.split_once('\n').unwrap_or((lines, ""));
+    let lines = lines.replace(alloc, '␤', "\n")?;
+    format!(in alloc; "{lines}\nrpm_low = 60\nrpm_high = 6000\nratio = [3, 2]\n")
+}
+
 /// The wheel that a row names, or has.
 fn wheel_of(alloc: Global, name: &str) -> Result<String, AllocError> {
     let row = format!(in alloc; "\n{name} => ")?;
-    let Some((_, rest)) = WHEELS.split_once(row.as_str()) else {
-        return name.replace(alloc, '␤', "\n");
-    };
-    let (lines, _) = rest.split_once('\n').unwrap_or((rest, ""));
-    let lines = lines.replace(alloc, '␤', "\n")?;
-    format!(in alloc; "{lines}\nrpm_low = 60\nrpm_high = 6000\nratio = [3, 2]\n")
+    match WHEELS.split_once(row.as_str()) {
+        Some((_, lines)) => wheel_from(alloc, lines),
+        None => name.replace(alloc, '␤', "\n"),
+    }
 }
 
 /// The capture that a row names, or has.

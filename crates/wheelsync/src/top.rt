@@ -1,11 +1,12 @@
 //! The top call.
 ghost use Rattle.std.specs.Prelude.{◌≡◌, ◌≤◌, ◌⊎◌, map, string_bytes, IsTrue, IfSome, None, ⊤};
-ghost use Rattle.shelf_io.specs.Count.{Rose};
+ghost use Rattle.shelf_traits.specs.Count.{Rose};
 ghost use Rattle.command_words.specs.Words.{command_of};
 ghost use Rattle.run_files.specs.Loading.{LoadsOn};
 ghost use Rattle.run_files.specs.Causes.{RunGives, IsMissing};
-ghost use Rattle.wheelsync.specs.Ending.{OutGets, OutKeeps, NotesGet};
-ghost use Rattle.wheelsync.specs.Complete.{AreReady};
+ghost use Rattle.run_ends.specs.Noted.{NotesGet};
+ghost use Rattle.wheelsync.specs.Ending.{OutGets, OutKeeps};
+ghost use Rattle.run_files.specs.Complete.{AreReady};
 
 use crate::{Tap, serve};
 use run_ends::{Status, finish};

@@ -1,6 +1,7 @@
 //! The files of `examples/`.
 
-use super::told;
+use super::replayed;
+use crate::Status;
 use crate::example_dumps::{DUMPED_REPORT, DUMPED_WHEEL, FST_DUMP, ICARUS_DUMP};
 use crate::example_files::{
     FOUR_SLOTS, FOUR_WHEEL, SEVEN_CAPTURE, SEVEN_REPORT, SEVEN_WHEEL, SIXTY_CAM_CAPTURE,
@@ -8,13 +9,18 @@ use crate::example_files::{
     THIRTY_SIX_CAPTURE, THIRTY_SIX_REPORT, THIRTY_SIX_WHEEL, THREE_GAPS_WHEEL, TWELVE_WHEEL,
     TWENTY_FOUR_WHEEL, TWO_CAMS_CAPTURE, TWO_CAMS_REPORT, TWO_CAMS_WHEEL,
 };
-use std::alloc::{AllocError, Global};
+use std::alloc::Global;
 use std::test::Fail;
 
-/// What is told of a run that is done and wrote this.
-fn done(alloc: Global, out: &str) -> Result<String, AllocError> {
-    let text = format!(in alloc; "{out} / Done ")?;
-    text.replace(alloc, '\n', "␤")
+/// Whether a run over two files is done, writes this on out, and nothing on notes.
+fn writes(alloc: Global, words: &str, files: (&str, &str), text: &str) -> Result<bool, Fail> {
+    let files = (files.0.as_bytes(), files.1.as_bytes());
+    let ran = replayed(alloc, words, files, &[], &[])?;
+    Ok(
+        ran.status == Status::Done
+            && ran.out.bytes() == text.as_bytes()
+            && ran.notes.bytes().is_empty(),
+    )
 }
 
 /// Whether the replay of an example is done, and gives its report.
@@ -26,9 +32,7 @@ fn gives(
     report: &str,
 ) -> Result<bool, Fail> {
     let words = format!(in alloc; "replay wheel capture{options}")?;
-    let result = told(alloc, &words, wheel, capture)?;
-    let want = done(alloc, report)?;
-    Ok(result.as_str() == want.as_str())
+    writes(alloc, &words, (wheel, capture), report)
 }
 
 #[test]
@@ -59,9 +63,8 @@ fn dumps(rt: HostRuntime) -> Result<(), Fail> {
 
 #[test]
 fn table(rt: HostRuntime) -> Result<(), Fail> {
-    let result = told(rt.alloc(), "import wheel four_minus_one", TABLES, "")?;
-    let want = done(rt.alloc(), FOUR_SLOTS)?;
-    assert_eq!(rt; result.as_str(), want.as_str());
+    let words = "import wheel four_minus_one";
+    assert!(rt; writes(rt.alloc(), words, (TABLES, ""), FOUR_SLOTS)?);
     Ok(())
 }
 

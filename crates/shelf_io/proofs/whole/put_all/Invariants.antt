@@ -1,5 +1,5 @@
 use Rattle.std.proofs.Common.{◌≡◌, length, ◌-◌, ◌≤◌, ◌++◌, take, IsTrue}
-use Rattle.shelf_io.specs.Shelf.{CountsFit, WritesOn, file_at}
+use Rattle.shelf_traits.specs.Shelf.{CountsFit, WritesOn, file_at}
 use Rattle.shelf_io.proofs.whole.put_all.Given as goal
 
 abbrev pub invariant-loop-written : goal.invariant-loop-written

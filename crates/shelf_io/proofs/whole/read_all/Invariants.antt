@@ -1,5 +1,5 @@
 use Rattle.std.proofs.Common.{◌≡◌, ◌+◌, ◌-◌, ◌^◌, ◌≤◌, ◌++◌, length, IsTrue}
-use Rattle.shelf_io.specs.Shelf.{ReadsOn, left_at}
+use Rattle.shelf_traits.specs.Shelf.{ReadsOn, left_at}
 use Rattle.shelf_io.proofs.whole.read_all.Given as goal
 
 abbrev pub invariant-pieces : goal.invariant-pieces

@@ -1,6 +1,6 @@
 use Rattle.std.proofs.Common.{length, ◌≡◌, ◌-◌, ◌≤◌, take, IsTrue}
 use Rattle.std.specs.Io.KnownBytes.{Appends}
-use Rattle.shelf_io.specs.Count.{Fits}
+use Rattle.shelf_traits.specs.Count.{Fits}
 use Rattle.shelf_io.proofs.whole.write_all.Given as goal
 
 abbrev pub invariant-loop-written : goal.invariant-loop-written

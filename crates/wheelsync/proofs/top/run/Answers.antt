@@ -1,7 +1,8 @@
 use Rattle.std.proofs.Common.{map, string_bytes}
-use Rattle.shelf_io.specs.Count.{Rose}
+use Rattle.shelf_traits.specs.Count.{Rose}
 use Rattle.command_words.specs.Words.{command_of}
-use Rattle.wheelsync.proofs.Endings.{ends_of, out_of, notes_of, complete_of, missing_of}
+use Rattle.run_ends.proofs.Noted.{notes_of}
+use Rattle.wheelsync.proofs.Endings.{ends_of, out_of, complete_of, missing_of}
 use Rattle.wheelsync.proofs.top.run.Goals as goal
 
 pub returns-clause-ends : goal.returns-clause-ends

@@ -1,0 +1,5 @@
+pub mod Calls
+pub mod Named
+pub mod Slots
+pub mod MemShelf
+pub mod MemSink

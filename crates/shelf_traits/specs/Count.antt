@@ -1,0 +1,17 @@
+-- Counts of faults. A count stops at 2^64 - 1, and one that stands there is said to have risen.
+use Rattle.std.specs.Prelude.{ℕ, ◌+◌, ◌-◌, ◌^◌, ◌≤◌, min, Result, IsErrOf}
+use Rattle.shelf_traits.specs.declared.fault.IoFault.{IoFault}
+use Rattle.shelf_traits.specs.declared.fault.IoFault.TheVariants.{Failed}
+
+-- a count is at most 2^64 - 1
+abbrev pub Fits : ℕ → Type 0
+Fits count = count ≤ 2 ^ 64 - 1
+
+-- a count rose from before to now
+abbrev pub Rose : ℕ → ℕ → Type 0
+Rose before now = min (before + 1) (2 ^ 64 - 1) ≤ now
+
+-- the count has not fallen, and `Failed` is told only where it rose
+pub record HasCause {T : Type 0} (before now : ℕ) (result : Result T IoFault) : Type 0 where
+  pub later : before ≤ now
+  pub failed : IsErrOf result Failed → Rose before now
