@@ -6,8 +6,6 @@ mod body;
 mod fault;
 mod slots;
 mod table;
-#[cfg(test)]
-mod tests;
 mod token_laws;
 mod tokens;
 

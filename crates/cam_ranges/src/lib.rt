@@ -8,8 +8,6 @@ mod laws;
 mod places;
 mod span;
 mod standing;
-#[cfg(test)]
-mod tests;
 
 pub use fault::PlaceFault;
 pub use laws::{angle_law, one_named_motion};

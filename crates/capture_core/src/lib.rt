@@ -10,6 +10,3 @@ pub use capture::{Capture, Column, CsvFault, End, Given, Names, Stamp, VcdFault,
 pub use digits::{LAST_TIME, all_digits, is_digit, number_within};
 pub use laws::{instants_are_changes, instants_rise, longer_begin_alike};
 pub use levels::Levels;
-
-#[cfg(test)]
-mod tests;

@@ -3,8 +3,6 @@
 
 mod options;
 mod spoken;
-#[cfg(test)]
-mod tests;
 mod words;
 
 pub use options::{OptionName, Options};

@@ -14,12 +14,3 @@ mod time;
 
 pub use laws::stamps_rise;
 pub use read::read_csv;
-
-#[cfg(test)]
-mod channel_tests;
-#[cfg(test)]
-mod fault_tests;
-#[cfg(test)]
-mod tests;
-#[cfg(test)]
-mod time_tests;

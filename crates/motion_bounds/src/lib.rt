@@ -3,8 +3,6 @@
 
 mod bounds;
 mod laws;
-#[cfg(test)]
-mod tests;
 
 pub use bounds::{greatest_time, keeps_ratio, keeps_speed, least_time, ratio_ok, speed_ok};
 pub use laws::times_are_between;

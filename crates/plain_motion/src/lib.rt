@@ -7,8 +7,6 @@ mod least;
 mod motions;
 mod passes;
 mod set;
-#[cfg(test)]
-mod tests;
 mod window;
 mod windows;
 

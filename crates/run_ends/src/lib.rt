@@ -5,8 +5,6 @@ mod cause;
 mod ending;
 mod lines;
 mod status;
-#[cfg(test)]
-mod tests;
 
 pub use cause::Cause;
 pub use ending::finish;

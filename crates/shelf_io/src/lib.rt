@@ -8,8 +8,6 @@
 mod fault;
 mod real;
 mod std_sink;
-#[cfg(test)]
-mod tests;
 mod whole;
 
 pub use fault::{LoadFault, PutFault};

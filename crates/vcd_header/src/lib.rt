@@ -5,8 +5,6 @@ mod bytes;
 mod header;
 mod section;
 mod signals;
-#[cfg(test)]
-mod tests;
 mod times;
 mod timescale;
 

@@ -17,10 +17,3 @@ pub use laws::{
     all_are_taken, more_bytes_change_nothing, times_rise, tokens_are_runs, tokens_of_joined,
 };
 pub use reader::VcdReader;
-
-#[cfg(test)]
-mod dump_tests;
-#[cfg(test)]
-mod header_tests;
-#[cfg(test)]
-mod tests;

@@ -8,11 +8,7 @@ mod lookups;
 mod numbers;
 mod print;
 mod print_laws;
-#[cfg(test)]
-mod print_tests;
 mod read;
-#[cfg(test)]
-mod read_tests;
 mod tooth_pattern;
 
 pub use c_tables::{TableFault, read_table, tokens_are_pieces};

@@ -11,8 +11,6 @@ mod parts;
 mod place;
 mod verdict;
 mod wheel;
-#[cfg(test)]
-mod wheel_tests;
 
 pub use channel::{Channel, Keep, Pol};
 pub use fault::{Memory, WheelFault};

@@ -1,0 +1,60 @@
+//! Runs of the top call: over files in memory, where calls may fail, and over the examples.
+//!
+//! Fields of a row are `replay OPTIONS | WHEEL | CAPTURE`; or `prefixes | WHEEL | CAPTURE` for all that the capture begins with; or
+//! `WORDS | FAILING | WHEEL | CAPTURE` where a call of the shelf or a write on out fails; or `WORDS | REPORT` over the files beside
+//! the program, with the file of what out gets. A blank stands between two words, `~` for a blank in a word, and `�` in a file for
+//! the byte 255, which no text has.
+#![tactic(auto)]
+
+mod examples;
+mod memory;
+mod prefixes;
+
+use examples::told_of_files;
+use memory::{bytes_of, told_of_replay, told_of_words};
+use prefixes::told_of_prefixes;
+use rows::{Tells, check};
+use std::alloc::{AllocError, Global};
+use std::io;
+
+/// Tells what a run leaves: what out got, the status, and what notes got.
+#[derive(Drop)]
+struct Runs<'a> {
+    rt: &'a HostRuntime,
+}
+
+impl Tells for Runs<'_> {
+    fn told(&self, alloc: Global, fields: &[String]) -> Result<Option<String>, AllocError> {
+        match fields {
+            [words, report] => told_of_files(self.rt, words, report),
+            [kind, wheel, capture] => {
+                let files = (bytes_of(alloc, wheel)?, bytes_of(alloc, capture)?);
+                told_of_kind(alloc, kind, (&files.0, &files.1))
+            }
+            [words, failing, wheel, capture] => {
+                let files = (bytes_of(alloc, wheel)?, bytes_of(alloc, capture)?);
+                told_of_words(alloc, words, failing, (&files.0, &files.1))
+            }
+            _ => Ok(None),
+        }
+    }
+}
+
+/// What is told of a replay, or of replays of all fronts of the capture.
+fn told_of_kind(
+    alloc: Global,
+    kind: &str,
+    files: (&[u8], &[u8]),
+) -> Result<Option<String>, AllocError> {
+    if let Some(options) = kind.strip_prefix("replay") {
+        return told_of_replay(alloc, options, files);
+    }
+    match kind {
+        "prefixes" => told_of_prefixes(alloc, files.0, files.1),
+        _ => Ok(None),
+    }
+}
+
+fn main(rt: HostRuntime) -> io::Result<()> {
+    check(&rt, &Runs { rt: &rt })
+}

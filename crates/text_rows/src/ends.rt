@@ -1,0 +1,67 @@
+//! Ends of runs, with their statuses and their lines on notes.
+
+use capture_core::{Column, CsvFault, VcdFault};
+use run_ends::{Cause, finish};
+use shelf_io::MemSink;
+use std::alloc::{AllocError, Global};
+use wheel_pattern::{Key, PatternFault, TableFault};
+use wheel_types::{Channel, WheelFault};
+
+/// The causes that rows give by their numbers here.
+const CAUSES: [Cause; 18] = [
+    Cause::Usage,
+    Cause::Wheel(PatternFault::NotToml),
+    Cause::Wheel(PatternFault::MissingKey { key: Key::Cam2High }),
+    Cause::Wheel(PatternFault::BadValue { key: Key::Ratio }),
+    Cause::Wheel(PatternFault::Wheel(WheelFault::SlotValue { at: u64::MAX })),
+    Cause::Wheel(PatternFault::Wheel(WheelFault::Phasing { cam: Channel::Cam2 })),
+    Cause::TooManyPlaces,
+    Cause::Table(TableFault::TwoArrays),
+    Cause::Table(TableFault::BadText { at: 0 }),
+    Cause::Csv(CsvFault::NoColumn {
+        column: Column::Time,
+    }),
+    Cause::Csv(CsvFault::BadLevel {
+        row: 4,
+        column: Column::Crank,
+    }),
+    Cause::Csv(CsvFault::TimeTooFine { row: 10 }),
+    Cause::Vcd(VcdFault::WideSignal {
+        channel: Channel::Cam1,
+    }),
+    Cause::Vcd(VcdFault::Cut { at: 184 }),
+    Cause::ReadFault,
+    Cause::WriteFault,
+    Cause::Memory,
+    Cause::FileLimit,
+];
+
+/// The end that a number gives; a dash is the end of a run that is done.
+fn end_of(number: &str) -> Option<Result<(), Cause>> {
+    if number == "-" {
+        return Some(Ok(()));
+    }
+    let number = number.parse::<usize>().ok()?;
+    let cause = CAUSES.get(number)?;
+    Some(Err(*cause))
+}
+
+/// What is told of an end: itself, its status, and the line that notes gets, whose first write may fail.
+pub fn told_of_end(
+    alloc: Global,
+    number: &str,
+    is_failing: bool,
+) -> Result<Option<String>, AllocError> {
+    let Some(end) = end_of(number) else {
+        return Ok(None);
+    };
+    let mut fails = Vec::new(alloc);
+    if is_failing {
+        fails.push(0)?;
+    }
+    let mut notes = MemSink::new(alloc, fails);
+    let status = finish(end, &mut notes);
+    let line = String::from_utf8_lossy(alloc, notes.bytes())?;
+    let slash = if line.is_empty() { "" } else { " / " };
+    Ok(Some(format!(in alloc; "{end:?} / {status:?}{slash}{line}")?))
+}

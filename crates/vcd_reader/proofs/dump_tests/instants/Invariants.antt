@@ -1,7 +1,0 @@
--- To take an instant reads no byte.
-use Rattle.std.proofs.Common.{◌≡◌}
-use Rattle.vcd_reader.specs.Readers.{bytes_read}
-use Rattle.vcd_reader.proofs.dump_tests.instants.Given as goal
-
-abbrev pub invariant-turns : goal.invariant-turns
-invariant-turns l = bytes_read l.reader ≡ bytes_read l.fn.reader

@@ -1,0 +1,61 @@
+//! Wheels and the limits of their motion.
+//!
+//! A row is `build | SLOTS | PARTS`, or one of `times | SLOTS | PARTS | COUNT`, `speed | SLOTS | PARTS | COUNT TIME` and
+//! `ratio | SLOTS | PARTS | COUNT TIME COUNT TIME`. Slots are numbers with blanks between them, or `alternating` and how many. Parts
+//! are such as `degrees=720` or `rpm=60,6000`; those that a row does not name are those of a turn of 360 degrees.
+#![tactic(auto)]
+
+mod bounds;
+mod parts;
+
+use bounds::{ratio, speed, times};
+use parts::{numbers_of, parts_of};
+use rows::{Tells, check};
+use std::alloc::{AllocError, Global};
+use std::io;
+use wheel_types::{Wheel, WheelParts};
+
+/// Tells of wheels.
+#[derive(Drop)]
+struct Wheels;
+
+/// What is told of the wheel of some parts.
+fn told_of_parts(
+    alloc: Global,
+    kind: &str,
+    parts: WheelParts,
+    numbers: &[u64],
+) -> Result<Option<String>, AllocError> {
+    let wheel = match Wheel::build(parts) {
+        Ok(wheel) => wheel,
+        Err(fault) => return Ok(Some(format!(in alloc; "{fault:?}")?)),
+    };
+    let told = match kind {
+        "build" => format!(in alloc; "a wheel")?,
+        "times" => format!(in alloc; "{:?}", times(&wheel, numbers))?,
+        "speed" => format!(in alloc; "{:?}", speed(&wheel, numbers))?,
+        "ratio" => format!(in alloc; "{:?}", ratio(&wheel, numbers))?,
+        _ => return Ok(None),
+    };
+    Ok(Some(told))
+}
+
+impl Tells for Wheels {
+    fn told(&self, alloc: Global, fields: &[String]) -> Result<Option<String>, AllocError> {
+        let [kind, slots, parts, rest @ ..] = fields else {
+            return Ok(None);
+        };
+        let numbers = match rest {
+            [numbers] => numbers_of(alloc, numbers)?,
+            _ => Vec::new(alloc),
+        };
+        match parts_of(alloc, slots, parts)? {
+            Some(parts) => told_of_parts(alloc, kind, parts, &numbers),
+            None => Ok(None),
+        }
+    }
+}
+
+fn main(rt: HostRuntime) -> io::Result<()> {
+    check(&rt, &Wheels)
+}

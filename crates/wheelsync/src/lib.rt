@@ -1,0 +1,21 @@
+//! Wheelsync: what the edges of a crank wheel and of cam wheels prove about an engine's position.
+//!
+//! `run` serves the words of a command over a shelf of files and two sinks, and does all that the program does. Its contract says
+//! that a report is exactly what the permitted motions prove.
+#![tactic(auto)]
+
+mod commands;
+mod import;
+mod laws;
+mod put;
+mod replay;
+mod tap;
+mod top;
+
+pub use commands::serve;
+pub use laws::one_report;
+pub use pair_certificate::report_line;
+pub use put::put_report;
+pub use run_ends::Status;
+pub use tap::{Go, Tap, mark};
+pub use top::run;
