@@ -1,9 +1,11 @@
 -- Quotients, rounded up and down, as bounds on times.
-use Rattle.std.proofs.Common.{rules, arith, ℕ, zero, suc, ◌+◌, ◌*◌, ◌/◌, ◌<◌, ◌≤◌}
+use Rattle.std.proofs.Common.{rules, arith, ℕ, zero, suc, ◌+◌, ◌*◌, ◌/◌, ◌^◌, ◌<◌, ◌≤◌}
 use Rattle.wheel_types.specs.declared.parts.WheelParts.{WheelParts}
+use Rattle.wheel_types.specs.Edges.{slot_count}
 use Rattle.wheel_types.specs.Wheels.{HasDegrees}
+use Rattle.motion_bounds.specs.Times.{TimesAreBetween}
 use Rattle.std.specs.Int.{div_ceil}
-use Rattle.std.proofs.Math.Nat.{le-div_iff_mul-le, lt_of_mul-lt-mul_right, mul-le-mul_right}
+use Rattle.std.proofs.Math.Nat.{le-div_iff_mul-le, lt_of_mul-lt-mul_right, mul-le-mul_right, mul-pos}
 use Rattle.std.proofs.lemmas.Grind.{div_ceil_times}
 
 -- times that make up the way at this rate are those from the quotient on
@@ -31,3 +33,18 @@ some_time rate (suc t) p = omega arith
 
 pub some_degrees : (w : WheelParts) → HasDegrees w → 0 < w.degrees
 some_degrees w h = search rules
+
+-- the limits on speed allow exactly the times from the least to the greatest
+pub times_are_between : TimesAreBetween
+times_are_between w s t wheel some =
+    let way : ℕ = s * w.degrees * 10 ^ 15 in let high : ℕ = w.rpm_high * 6 * slot_count w in let low : ℕ = w.rpm_low * 6 * slot_count w in
+    let slots : 0 < slot_count w = omega (arith, wheel.slots.0) in
+    let h : 0 < high = mul-pos (mul-pos (omega (arith, wheel.rpm.0, wheel.rpm.1)) (omega arith)) slots in
+    let l : 0 < low = mul-pos (mul-pos (omega (arith, wheel.rpm.0)) (omega arith)) slots in
+    let d : 0 < w.degrees = some_degrees w wheel.degrees in
+    let turns : 0 < way = mul-pos (mul-pos some d) (omega arith) in (
+      λ k. (from_least way high t h k.not_faster, from_greatest way low t l k.not_slower),
+      λ b.
+          let fast : way ≤ high * t = to_least way high t h b.0 in
+          record { later = some_time high t (omega (arith, turns, fast)); not_slower = to_greatest way low t l b.1; not_faster = fast },
+    )

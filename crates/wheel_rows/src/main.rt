@@ -1,14 +1,16 @@
 //! Wheels and the limits of their motion.
 //!
-//! A row is `build | SLOTS | PARTS`, or one of `times | SLOTS | PARTS | COUNT`, `speed | SLOTS | PARTS | COUNT TIME` and
-//! `ratio | SLOTS | PARTS | COUNT TIME COUNT TIME`. Slots are numbers with blanks between them, or `alternating` and how many. Parts
+//! A row is `build`, `cuts`, `classes` or `kept | SLOTS | PARTS`, or one of `times | SLOTS | PARTS | COUNT`, `speed | SLOTS | PARTS |
+//! COUNT TIME` and `ratio | SLOTS | PARTS | COUNT TIME COUNT TIME`. Slots are numbers with blanks between them, or `alternating` and how many. Parts
 //! are such as `degrees=720` or `rpm=60,6000`; those that a row does not name are those of a turn of 360 degrees.
 #![tactic(auto)]
 
 mod bounds;
+mod cuts;
 mod parts;
 
 use bounds::{ratio, speed, times};
+use cuts::told_of_cuts;
 use parts::{numbers_of, parts_of};
 use rows::{Tells, check};
 use std::alloc::{AllocError, Global};
@@ -35,7 +37,7 @@ fn told_of_parts(
         "times" => format!(in alloc; "{:?}", times(&wheel, numbers))?,
         "speed" => format!(in alloc; "{:?}", speed(&wheel, numbers))?,
         "ratio" => format!(in alloc; "{:?}", ratio(&wheel, numbers))?,
-        _ => return Ok(None),
+        _ => return told_of_cuts(alloc, kind, &wheel),
     };
     Ok(Some(told))
 }

@@ -1,0 +1,13 @@
+pub mod Counts
+pub mod Lowest
+pub mod Parted
+pub mod Inserted
+pub mod Whole
+pub mod Listed
+pub mod EdgeGaps
+pub mod EdgeCuts
+pub mod Sizes
+pub mod GapSizes
+pub mod Kept
+pub mod TimesKept
+pub mod RatiosKept
