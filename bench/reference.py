@@ -18,8 +18,7 @@ CHANNELS = ("crank", "cam1", "cam2")
 
 
 class Wheel:
-    def __init__(self, path):
-        file = tomllib.load(open(path, "rb"))
+    def __init__(self, file):
         self.degrees = file.get("degrees", 360)
         self.slots = file["slots"] if "slots" in file else self.pattern(file)
         self.low, self.high = file["rpm_low"], file["rpm_high"]
@@ -127,16 +126,22 @@ def instants_of(wheel, path, names):
     return instants
 
 
+def keeps_speed(wheel, s, t):
+    """Whether a gap of these slots may take this time."""
+    way = s * wheel.degrees * 10**15
+    return t >= 1 and wheel.low * 6 * len(wheel.slots) * t <= way <= wheel.high * 6 * len(wheel.slots) * t
+
+
+def keeps_ratio(wheel, s0, t0, s1, t1):
+    """Whether a gap of s1 slots in the time t1 may follow one of s0 slots in the time t0."""
+    return s0 * t1 * wheel.rd <= s1 * t0 * wheel.rn and s1 * t0 * wheel.rd <= s0 * t1 * wheel.rn
+
+
 def keeps_limits(wheel, passes):
     """Whether crank edges passed at these times keep the limits on speed and on its ratio."""
     gaps = [(wheel.slot("crank", n) - wheel.slot("crank", m), u - t) for (m, t), (n, u) in zip(passes, passes[1:])]
-    for s, t in gaps:
-        way = s * wheel.degrees * 10**15
-        if t < 1 or not wheel.low * 6 * len(wheel.slots) * t <= way <= wheel.high * 6 * len(wheel.slots) * t:
-            return False
-    rn, rd = wheel.rn, wheel.rd
-    return all(
-        s0 * t1 * rd <= s1 * t0 * rn and s1 * t0 * rd <= s0 * t1 * rn for (s0, t0), (s1, t1) in zip(gaps, gaps[1:])
+    return all(keeps_speed(wheel, *gap) for gap in gaps) and all(
+        keeps_ratio(wheel, *before, *gap) for before, gap in zip(gaps, gaps[1:])
     )
 
 
@@ -196,6 +201,6 @@ def report(wheel, instants):
 
 
 if __name__ == "__main__":
-    wheel = Wheel(sys.argv[1])
+    wheel = Wheel(tomllib.load(open(sys.argv[1], "rb")))
     names = dict(zip(CHANNELS, sys.argv[3:]))
     report(wheel, instants_of(wheel, sys.argv[2], names))

@@ -76,6 +76,7 @@ opens_ok i o ways ways' st st' names contents files files' places places' slot f
     record {
       no_less = omega arith;
       failed = λ h. absurd (cc);
+      quiet = λ h. refl;
       out = refl;
       slot = (s, ew);
       no_slot = tt;
@@ -102,6 +103,7 @@ creates_ok i o ways ways' st st' names names' contents contents' files files' pl
     record {
       no_less = omega arith;
       failed = λ h. absurd (cc);
+      quiet = λ h. refl;
       reads = refl;
       slot = (s, ew);
       no_slot = tt;

@@ -11,7 +11,7 @@ use std::alloc::Global;
 /// A sink in memory, which tells its bytes to contracts.
 ///
 /// Its writes are numbered from 0, and a write fails where its number is in a list (the number
-/// stops at the greatest u64). A write that does not fail takes the whole piece.
+/// stops at the greatest u64). A write that does not fail takes the whole piece, and no byte waits.
 #[derive(Drop)]
 pub struct MemSink {
     bytes: Vec<u8>,
@@ -54,6 +54,8 @@ impl Sink for MemSink {
 
     ghost taken = { λ s. Some (sink_bytes s) };
 
+    ghost waiting = { λ s. 0 };
+
     ghost steady = { sink_is_steady };
 
     fn write(&mut self, piece: &[u8]) -> Result<usize, IoFault>
@@ -74,5 +76,9 @@ impl Sink for MemSink {
         }
         self.bytes.extend_from_slice(piece)?;
         Ok(piece.len())
+    }
+
+    fn hand_on(&mut self) -> Result<(), IoFault> {
+        Ok(())
     }
 }

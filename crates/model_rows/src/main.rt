@@ -15,7 +15,6 @@
 #![tactic(auto)]
 
 mod edges;
-mod instants;
 mod model;
 mod places;
 mod tables;

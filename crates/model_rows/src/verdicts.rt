@@ -3,10 +3,10 @@ ghost use Rattle.std.specs.Prelude.{IsTrue, IfSome, ◌<ℤ◌};
 ghost use Rattle.plain_motion.specs.Sets.{last_of};
 
 use crate::Told;
-use crate::instants::{instant_of, instants_of};
 use crate::model::{Model, model_of};
 use crate::places::{is_place, place_of, text_of_place};
 use plain_motion::{PlaceFault, PlainSet};
+use row_texts::{instant_of, instants_of};
 use std::alloc::{AllocError, Global};
 use wheel_types::{Instant, Memory, Place, Verdict};
 

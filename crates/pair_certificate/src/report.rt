@@ -44,7 +44,7 @@ fn cam2_change(digit: u32) -> &'static str
 }
 
 /// Puts a place, `j:n1:n2`, at the end of a line.
-fn push_place(line: &mut String, place: Place) -> Result<(), Memory>
+pub(crate) fn push_place(line: &mut String, place: Place) -> Result<(), Memory>
     ensures { OnOk result (string_bytes line.new ≡ string_bytes line.old ++ place_text place) }
 {
     let Place { j, n1, n2 } = place;
@@ -77,7 +77,12 @@ fn push_verdict(line: &mut String, verdict: Verdict) -> Result<(), Memory>
     }
 }
 
-/// The line of a report, `INDEX TIME SHAPE VERDICT` and a line feed.
+/// The line of a report, `INDEX TIME SHAPE VERDICT` and a line feed. The time is in femtoseconds; the shape joins the edges of
+/// crank, `C`, first cam, `1`, and second cam, `2`, each with `+` where it rises and `-` where it falls; the verdict is
+/// `at J slot S`, `open PLACE PLACE` or `lost`, and a place `j:n1:n2`.
+///
+/// # Errors
+/// Want of memory.
 pub fn report_line(alloc: Global, report: &Report) -> Result<Vec<u8>, Memory>
     ensures { IfOk result (λ line. line.items ≡ report_line_text report.now) }
 {

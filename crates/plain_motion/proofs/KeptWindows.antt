@@ -17,11 +17,11 @@ use Rattle.wheel_types.proofs.StartsAndEnds.{start_determined}
 use Rattle.cam_ranges.specs.Places.{IsPlace}
 use Rattle.plain_motion.specs.declared.window.Walk.{Walk}
 use Rattle.plain_motion.specs.declared.window.Window.{Window}
-use Rattle.plain_motion.specs.declared.window.CrankTimes.TheVariants.{Unseen}
-use Rattle.plain_motion.specs.Windows.{times_of}
+use Rattle.legal_steps.specs.declared.times.CrankTimes.TheVariants.{Unseen}
+use Rattle.legal_steps.specs.Times.{times_of}
 use Rattle.plain_motion.specs.Ends.{Keeps, AreWalksOf, GoesOnTo}
 use Rattle.plain_motion.proofs.Images.{AreImages}
-use Rattle.plain_motion.proofs.TimedSteps.{timed_is_legal, legal_is_timed}
+use Rattle.legal_steps.proofs.TimedSteps.{timed_is_legal, legal_is_timed}
 
 -- motions end at places of the wheel
 pub ends_on : (w : WheelParts) (past : List Instant) (a e : Place) → 0 < edge_count w Crank → Leads w past a e → IsPlace w e

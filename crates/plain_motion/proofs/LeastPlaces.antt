@@ -24,9 +24,6 @@ before_through a b c (inr (e, h)) (inr (f, k)) = inr (e ∙ f, cams h k)
     cams (inr (e, h)) (inl k) = inl (omega (arith, ints, k, e))
     cams (inr (e, h)) (inr (f, k)) = inr (e ∙ f, omega (arith, ints, h, k))
 
-pub least_start : (k : Option ℕ) → IsLeastBut [] k None
-least_start k p h o = omega (arith, h.1)
-
 pub least_skip : (ps : List Walk) (k : Option ℕ) (o : Option Walk) (p : Walk) → IsLeastBut ps k o → (IsOther k p.end.j → ⊥) → IsLeastBut (ps ++ p ∷ []) k o
 least_skip ps k None p h n = λ q c o. by_cases q o (Contains-push_cases ps p q c)
   where

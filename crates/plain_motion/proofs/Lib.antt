@@ -1,15 +1,10 @@
-pub mod KeptGaps
-pub mod NextPlaces
-pub mod NextEdges
-pub mod Passing
 pub mod TestedPlaces
-pub mod InOrder
-pub mod TimedSteps
 pub mod WalkSteps
-pub mod FoundPlaces
 pub mod Images
 pub mod LeastPlaces
 pub mod KeptWindows
+pub mod EndLists
+pub mod InOrderEnds
 pub mod Judged
 pub mod Remembered
 pub mod SameKinds

@@ -4,10 +4,10 @@ use Rattle.wheel_types.specs.declared.place.Place.{Place}
 use Rattle.wheel_types.specs.declared.instant.Instant.{Instant}
 use Rattle.wheel_types.specs.declared.parts.WheelParts.{WheelParts}
 use Rattle.plain_motion.specs.declared.window.Walk.{Walk}
-use Rattle.plain_motion.specs.Windows.{IsTimedStep}
+use Rattle.legal_steps.specs.TimedSteps.{IsTimedStep}
 use Rattle.plain_motion.specs.Ends.{EndsOn, GoesOnTo}
 use Rattle.plain_motion.proofs.TestedPlaces.{by_test, to_test}
-use Rattle.plain_motion.proofs.TimedSteps.{timed_step_once, timed_step_place}
+use Rattle.legal_steps.proofs.TimedSteps.{timed_step_once, timed_step_place}
 
 pub goes_on_by : (w : WheelParts) (ts : List ℤ) (i : Instant) (v : Walk) (q : Place) → IsTimedStep w ts v.end i q → GoesOnTo w ts i v (record { start = v.start; end = q })
 goes_on_by w ts i v q h = record { start = refl; step = h }

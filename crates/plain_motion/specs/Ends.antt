@@ -1,5 +1,6 @@
 -- What a window keeps, and what it stands for.
-use Rattle.std.specs.Prelude.{◌≡◌, ◌≢◌, ℕ, ◌<◌, IsTrue, take, List, [], ◌∷◌, All, Contains, ◌↔◌, Option, Some, None, Bool, true, false, ⊤, ℤ}
+use Rattle.std.specs.Prelude.{◌≡◌, ◌≢◌, ℕ, ◌<◌, ℤ, take, List, [], ◌∷◌, All, Contains, ◌↔◌, Option, Some, None}
+use Rattle.std.specs.Prelude.{Bool, true, false, IsTrue, ⊤}
 use Rattle.wheel_types.specs.declared.place.Place.{Place}
 use Rattle.wheel_types.specs.declared.instant.Instant.{Instant}
 use Rattle.wheel_types.specs.declared.parts.WheelParts.{WheelParts}
@@ -9,7 +10,8 @@ use Rattle.wheel_types.specs.PlainSteps.{is_standing}
 use Rattle.wheel_types.specs.Edges.{edge_count}
 use Rattle.wheel_types.specs.declared.channel.Channel.TheVariants.{Crank}
 use Rattle.cam_ranges.specs.Places.{IsPlace}
-use Rattle.plain_motion.specs.Windows.{times_of, AreSmall, IsTimedStep}
+use Rattle.legal_steps.specs.Times.{times_of, AreSmall}
+use Rattle.legal_steps.specs.TimedSteps.{IsTimedStep}
 use Rattle.plain_motion.specs.declared.window.Walk.{Walk}
 use Rattle.plain_motion.specs.declared.window.Window.{Window}
 

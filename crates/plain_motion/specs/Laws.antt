@@ -30,24 +30,38 @@ OneKind = (w : WheelParts) (past : List Instant) (v u : Verdict) → IsVerdict w
 
 -- the instants determine the window that the next one comes into
 abbrev pub OneWindow : Type 0
-OneWindow = (w : WheelParts) (past : List Instant) (vs us : List Verdict) (g h : List Instant) → AreVerdicts w past vs g → AreVerdicts w past us h → g ≡ h
+OneWindow =
+    (w : WheelParts) (past : List Instant) (vs us : List Verdict) (g h : List Instant)
+    → AreVerdicts w past vs g → AreVerdicts w past us h → g ≡ h
 
 -- after one more instant, motions end exactly at the legal steps of the places where they ended before
 abbrev pub EndsAreSteps : Type 0
-EndsAreSteps = (w : WheelParts) (i : Instant) (past : List Instant) (q : Place) → 0 < edge_count w Crank → AllEarlier i.time past → EndsAt w (i ∷ past) q ↔ ((p : Place) × (EndsAt w past p × IsLegalStep w past p i q))
+EndsAreSteps =
+    (w : WheelParts) (i : Instant) (past : List Instant) (q : Place) → 0 < edge_count w Crank → AllEarlier i.time past
+    → EndsAt w (i ∷ past) q ↔ ((p : Place) × (EndsAt w past p × IsLegalStep w past p i q))
 
 -- given instants have one verdict
 abbrev pub OneVerdict : Type 0
-OneVerdict = (w : WheelParts) (past : List Instant) (v u : Verdict) → 0 < edge_count w Crank → IsVerdict w past v → IsVerdict w past u → v ≡ u
+OneVerdict =
+    (w : WheelParts) (past : List Instant) (v u : Verdict) → 0 < edge_count w Crank → IsVerdict w past v → IsVerdict w past u → v ≡ u
 
 -- given instants have one list of verdicts, and lead to one window
 abbrev pub VerdictsAreOne : Type 0
-VerdictsAreOne = (w : WheelParts) (past : List Instant) (vs us : List Verdict) (g h : List Instant) → 0 < edge_count w Crank → AreVerdicts w past vs g → AreVerdicts w past us h → (vs ≡ us) × (g ≡ h)
+VerdictsAreOne =
+    (w : WheelParts) (past : List Instant) (vs us : List Verdict) (g h : List Instant) → 0 < edge_count w Crank
+    → AreVerdicts w past vs g → AreVerdicts w past us h → (vs ≡ us) × (g ≡ h)
 
--- over given instants the start place of a motion and its end place determine each other, and the start is the end place taken back
+-- over given instants the start place of a motion and its end place determine each other, and the start is the end place taken
+-- back
 abbrev pub StartAndEnd : Type 0
-StartAndEnd = (w : WheelParts) (past : List Instant) → 0 < edge_count w Crank → ((a b e : Place) → Leads w past a e → Leads w past b e → a ≡ b) × ((a e f : Place) → Leads w past a e → Leads w past a f → e ≡ f) × ((a e : Place) → Leads w past a e → a ≡ start_of w past e)
+StartAndEnd =
+    (w : WheelParts) (past : List Instant) → 0 < edge_count w Crank
+    → ((a b e : Place) → Leads w past a e → Leads w past b e → a ≡ b)
+    × ((a e f : Place) → Leads w past a e → Leads w past a f → e ≡ f)
+    × ((a e : Place) → Leads w past a e → a ≡ start_of w past e)
 
 -- on every wheel, instants whose times rise have verdicts
 abbrev pub VerdictsExist : Type 0
-VerdictsExist = (w : WheelParts) (is : List Instant) → IsWheel w → IsRising is → (vs : List Verdict) × ((window : List Instant) × AreVerdicts w (reverse is) vs window)
+VerdictsExist =
+    (w : WheelParts) (is : List Instant) → IsWheel w → IsRising is
+    → (vs : List Verdict) × ((window : List Instant) × AreVerdicts w (reverse is) vs window)

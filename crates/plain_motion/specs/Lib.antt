@@ -1,6 +1,5 @@
-pub mod Passes
-pub mod Windows
 pub mod Ends
+pub mod EndPlaces
 pub mod Memories
 pub mod Sets
 pub mod Laws

@@ -1,11 +1,9 @@
 //! Sets of places, stepped once for each instant: what the edges prove about an engine's position.
 #![tactic(auto)]
 
-mod gaps;
+mod ends;
 mod laws;
 mod least;
-mod motions;
-mod passes;
 mod set;
 mod window;
 mod windows;

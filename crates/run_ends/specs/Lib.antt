@@ -2,4 +2,6 @@ pub mod Notes
 pub mod Statuses
 pub mod Prefixes
 pub mod Finishing
-pub mod Noted
+pub mod Works
+pub mod Loads
+pub mod Serving

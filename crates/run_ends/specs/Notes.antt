@@ -15,6 +15,10 @@ use Rattle.capture_core.specs.declared.capture.CsvFault.{CsvFault}
 use Rattle.capture_core.specs.declared.capture.CsvFault.TheVariants as csv
 use Rattle.capture_core.specs.declared.capture.VcdFault.{VcdFault}
 use Rattle.capture_core.specs.declared.capture.VcdFault.TheVariants as vcd
+use Rattle.run_ends.specs.declared.cause.Refusal.{Refusal}
+use Rattle.run_ends.specs.declared.cause.Refusal.TheVariants as refusal
+use Rattle.run_ends.specs.declared.cause.Limit.{Limit}
+use Rattle.run_ends.specs.declared.cause.Limit.TheVariants as limit
 use Rattle.run_ends.specs.declared.cause.Cause.{Cause}
 use Rattle.run_ends.specs.declared.cause.Cause.TheVariants as cause
 
@@ -94,15 +98,23 @@ vcd_line (vcd.TwoSignals channel) = line_with (codes "capture: two signals ") (c
 vcd_line (vcd.WideSignal channel) = line_with (codes "capture: wide signal ") (channel_text channel)
 vcd_line (vcd.Cut at) = line_at (codes "capture: cut byte ") at
 
+-- the line of a refused input
+abbrev pub refusal_line : Refusal → List ℕ
+refusal_line (refusal.Wheel no_wheel) = pattern_line no_wheel.fault
+refusal_line (refusal.Table no_table) = table_line no_table.fault
+refusal_line (refusal.Csv fault) = csv_line fault
+refusal_line (refusal.Vcd fault) = vcd_line fault
+
+-- the line of a limit that was passed
+abbrev pub limit_line : Limit → List ℕ
+limit_line limit.Places = line (codes "limit: places")
+limit_line limit.File = line (codes "limit: file")
+
 -- the line of a cause
 abbrev pub note_of : Cause → List ℕ
 note_of cause.Usage = line (codes "usage")
-note_of (cause.Wheel fault) = pattern_line fault
-note_of cause.TooManyPlaces = line (codes "limit: places")
-note_of (cause.Table fault) = table_line fault
-note_of (cause.Csv fault) = csv_line fault
-note_of (cause.Vcd fault) = vcd_line fault
+note_of (cause.Refused r) = refusal_line r
+note_of (cause.Limit l) = limit_line l
 note_of cause.ReadFault = line (codes "read fault")
 note_of cause.WriteFault = line (codes "write fault")
 note_of cause.Memory = line (codes "want of memory")
-note_of cause.FileLimit = line (codes "limit: file")

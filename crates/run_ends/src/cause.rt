@@ -1,29 +1,52 @@
 //! Why a run ended.
 
+use crate::refused::{NoTable, NoWheel};
 use capture_core::{CsvFault, VcdFault};
-use wheel_pattern::{PatternFault, TableFault};
+
+/// Why an input is refused.
+#[derive(Clone, Copy, Debug, PartialEq, Eq)]
+pub enum Refusal {
+    /// The model is no wheel file.
+    Wheel(NoWheel),
+    /// The source has no table of the name.
+    Table(NoTable),
+    /// The capture in CSV has a fault.
+    Csv(CsvFault),
+    /// The value change dump has a fault.
+    Vcd(VcdFault),
+}
+
+/// Which limit was passed.
+#[derive(Clone, Copy, Debug, PartialEq, Eq)]
+pub enum Limit {
+    /// The wheel has more than 16,384 places.
+    Places,
+    /// A file has more than 2^28 bytes.
+    File,
+}
 
 /// Why a run ended before its work was done.
 #[derive(Clone, Copy, Debug, PartialEq, Eq)]
 pub enum Cause {
     /// The words are no command.
     Usage,
-    /// The model is no wheel file.
-    Wheel(PatternFault),
-    /// The wheel has more than 16,384 places.
-    TooManyPlaces,
-    /// The source has no table of the name.
-    Table(TableFault),
-    /// The capture in CSV has a fault.
-    Csv(CsvFault),
-    /// The value change dump has a fault.
-    Vcd(VcdFault),
+    /// An input is refused.
+    Refused(Refusal),
+    /// A limit was passed.
+    Limit(Limit),
     /// The shelf failed at open or read.
     ReadFault,
-    /// A write failed.
+    /// A create or a write failed.
     WriteFault,
     /// There was not enough memory.
     Memory,
-    /// A file has more than 2^28 bytes.
-    FileLimit,
+}
+
+/// How work ends that is done.
+#[derive(Clone, Copy, Debug, PartialEq, Eq)]
+pub enum Done {
+    /// As it should.
+    Whole,
+    /// With the answer that a certificate is not valid.
+    No,
 }

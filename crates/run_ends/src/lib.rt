@@ -4,9 +4,11 @@
 mod cause;
 mod ending;
 mod lines;
+mod refused;
 mod status;
 
-pub use cause::Cause;
-pub use ending::finish;
+pub use cause::{Cause, Done, Limit, Refusal};
+pub use ending::{finish, hand_on};
 pub use lines::{Line, note};
+pub use refused::{NoTable, NoWheel};
 pub use status::Status;

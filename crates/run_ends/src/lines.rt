@@ -1,9 +1,9 @@
 //! The line of a cause on notes. It is made without taking memory.
 ghost use Rattle.std.specs.Prelude.{◌≡◌, ◌≤◌, ◌+◌, ◌++◌, length, decimal};
 ghost use Rattle.arrayvec.specs.ArrayString.{array_string_len};
-ghost use Rattle.run_ends.specs.Notes.{line, line_with, line_at, line_with_at, channel_text, column_text, wheel_line, pattern_line, table_line, csv_line, vcd_line, note_of};
+ghost use Rattle.run_ends.specs.Notes.{line, line_with, line_at, line_with_at, channel_text, column_text, wheel_line, pattern_line, table_line, csv_line, vcd_line, refusal_line, limit_line, note_of};
 
-use crate::Cause;
+use crate::{Cause, Limit, Refusal};
 use arrayvec::ArrayString;
 use capture_core::{Column, CsvFault, VcdFault};
 use itoa::Buffer;
@@ -180,20 +180,38 @@ fn vcd_note(fault: VcdFault) -> Line
     }
 }
 
+/// The line of a refused input.
+fn refusal_note(refusal: Refusal) -> Line
+    ensures { result.bytes ≡ refusal_line refusal }
+{
+    match refusal {
+        Refusal::Wheel(no_wheel) => pattern_note(no_wheel.fault),
+        Refusal::Table(no_table) => table_note(no_table.fault),
+        Refusal::Csv(fault) => csv_note(fault),
+        Refusal::Vcd(fault) => vcd_note(fault),
+    }
+}
+
+/// The line of a limit that was passed.
+fn limit_note(limit: Limit) -> Line
+    ensures { result.bytes ≡ limit_line limit }
+{
+    match limit {
+        Limit::Places => plain("limit: places"),
+        Limit::File => plain("limit: file"),
+    }
+}
+
 /// The line of a cause, with its line feed. Bytes and entries are counted from 0, rows from 1.
 pub fn note(cause: Cause) -> Line
     ensures { result.bytes ≡ note_of cause }
 {
     match cause {
         Cause::Usage => plain("usage"),
-        Cause::Wheel(fault) => pattern_note(fault),
-        Cause::TooManyPlaces => plain("limit: places"),
-        Cause::Table(fault) => table_note(fault),
-        Cause::Csv(fault) => csv_note(fault),
-        Cause::Vcd(fault) => vcd_note(fault),
+        Cause::Refused(refusal) => refusal_note(refusal),
+        Cause::Limit(limit) => limit_note(limit),
         Cause::ReadFault => plain("read fault"),
         Cause::WriteFault => plain("write fault"),
         Cause::Memory => plain("want of memory"),
-        Cause::FileLimit => plain("limit: file"),
     }
 }

@@ -1,3 +1,2 @@
-pub mod FileNames
-pub mod DumpCaptures
+pub mod Decoding
 pub mod Ready

@@ -1,9 +1,9 @@
 //! Loading a model: its wheel, with what a replay needs of it.
-ghost use Rattle.std.specs.Prelude.{◌≡◌, ◌≤◌, ◌⊎◌, IsTrue, IfOk, IfErr, OnOk, IsErrOf, None, [], true, false};
-ghost use Rattle.shelf_traits.specs.Count.{Rose};
+ghost use Rattle.std.specs.Prelude.{◌≡◌, ◌⊎◌, IfOk, IfErr, OnOk};
 ghost use Rattle.edge_angles.specs.EdgeTables.{AreEdgesOf};
 ghost use Rattle.cam_ranges.specs.Places.{HasTooMany};
-ghost use Rattle.run_files.specs.Loading.{LoadsOn, EndsModel};
+ghost use Rattle.run_ends.specs.Loads.{Loads};
+ghost use Rattle.wheel_types.specs.Wheels.{IsWheel};
 ghost use Rattle.run_files.specs.Models.{IsFreshSet};
 ghost use Rattle.run_files.specs.Files.{HasWheel, HasPlacedWheel};
 ghost use Rattle.run_files.specs.Causes.{ModelGives};
@@ -11,7 +11,7 @@ ghost use Rattle.run_files.specs.Causes.{ModelGives};
 use crate::load::load;
 use edge_angles::{Edges, find_edges};
 use plain_motion::{PlaceFault, PlainSet};
-use run_ends::Cause;
+use run_ends::{Cause, Limit, NoWheel, Refusal};
 use shelf_io::Shelf;
 use std::alloc::Global;
 use wheel_pattern::{PatternFault, read_wheel};
@@ -27,12 +27,7 @@ pub struct Model {
 
 /// Reads the wheel of a model's file.
 fn load_wheel<S: Shelf>(alloc: Global, shelf: &mut S, name: &str) -> Result<Wheel, Cause>
-    ensures keeps { LoadsOn (S.view shelf.old) (S.view shelf.new) }
-    ensures read { IsErrOf result Cause.ReadFault → Rose (S.view shelf.old).faults_in (S.view shelf.new).faults_in }
-    ensures kinds { IfErr result EndsModel }
-    ensures wheel { IsTrue (S.view shelf.old).tells → IfOk result (λ w. HasWheel (S.view shelf.old).file name.now w.parts) }
-    ensures gives { IsTrue (S.view shelf.old).tells → IfErr result (ModelGives (S.view shelf.old).file name.now) }
-    ensures calm { IsTrue (S.view shelf.old).steady → IsErrOf result Cause.ReadFault → (S.view shelf.old).file name.now ≡ None }
+    ensures { Loads (S.view shelf.old) (S.view shelf.old) (S.view shelf.new) name.now (ModelGives (S.view shelf.old).file name.now) (λ wheel. HasWheel (S.view shelf.old).file name.now wheel.parts) result }
 {
     let bytes = load(alloc, shelf, name)?;
     match read_wheel(alloc, &bytes) {
@@ -41,7 +36,7 @@ fn load_wheel<S: Shelf>(alloc: Global, shelf: &mut S, name: &str) -> Result<Whee
             if fault == PatternFault::Memory {
                 Err(Cause::Memory)
             } else {
-                Err(Cause::Wheel(fault))
+                Err(Cause::Refused(Refusal::Wheel(NoWheel { fault })))
             }
         }
     }
@@ -63,11 +58,11 @@ fn fresh_set(alloc: Global, wheel: &Wheel, edges: &Edges) -> Result<PlainSet, Ca
     requires edges { AreEdgesOf wheel.now.parts edges.now }
     ensures few { OnOk result (¬ HasTooMany wheel.now.parts) }
     ensures fresh { IfOk result (IsFreshSet wheel.now.parts) }
-    ensures kinds { IfErr result (λ e. ((e ≡ Cause.TooManyPlaces) × HasTooMany wheel.now.parts) ⊎ (e ≡ Cause.Memory)) }
+    ensures kinds { IfErr result (λ e. ((e ≡ Cause.Limit Limit.Places) × HasTooMany wheel.now.parts) ⊎ (e ≡ Cause.Memory)) }
 {
     match PlainSet::new(alloc, wheel, edges) {
         Ok(set) => Ok(set),
-        Err(PlaceFault::TooMany) => Err(Cause::TooManyPlaces),
+        Err(PlaceFault::TooMany) => Err(Cause::Limit(Limit::Places)),
         Err(PlaceFault::Memory) => Err(Cause::Memory),
     }
 }
@@ -75,17 +70,13 @@ fn fresh_set(alloc: Global, wheel: &Wheel, edges: &Edges) -> Result<PlainSet, Ca
 /// Reads a model's file: its wheel, the wheel's edges, and the set of all its places, before the first instant.
 ///
 /// # Errors
-/// `Wheel` with the first fault of a file that is no wheel's; `TooManyPlaces` past 16,384 places; `ReadFault` where the shelf failed,
-/// `FileLimit` past 2^28 bytes, or `Memory`.
+/// `Refusal::Wheel` with the first fault of a file that is no wheel's; `Limit::Places` past 16,384 places; `ReadFault` where the shelf failed,
+/// `Limit::File` past 2^28 bytes, or `Memory`.
 pub fn load_model<S: Shelf>(alloc: Global, shelf: &mut S, name: &str) -> Result<Model, Cause>
-    ensures keeps { LoadsOn (S.view shelf.old) (S.view shelf.new) }
-    ensures read { IsErrOf result Cause.ReadFault → Rose (S.view shelf.old).faults_in (S.view shelf.new).faults_in }
-    ensures kinds { IfErr result EndsModel }
-    ensures wheel { IsTrue (S.view shelf.old).tells → IfOk result (λ model. HasPlacedWheel (S.view shelf.old).file name.now model.wheel.parts) }
+    ensures loads { Loads (S.view shelf.old) (S.view shelf.old) (S.view shelf.new) name.now (ModelGives (S.view shelf.old).file name.now) (λ model. HasPlacedWheel (S.view shelf.old).file name.now model.wheel.parts) result }
+    ensures built { IfOk result (λ model. IsWheel model.wheel.parts) }
     ensures edges { IfOk result (λ model. AreEdgesOf model.wheel.parts model.edges) }
     ensures fresh { IfOk result (λ model. IsFreshSet model.wheel.parts model.set) }
-    ensures gives { IsTrue (S.view shelf.old).tells → IfErr result (ModelGives (S.view shelf.old).file name.now) }
-    ensures calm { IsTrue (S.view shelf.old).steady → IsErrOf result Cause.ReadFault → (S.view shelf.old).file name.now ≡ None }
 {
     let wheel = load_wheel(alloc, shelf, name)?;
     let edges = edges_of(alloc, &wheel)?;

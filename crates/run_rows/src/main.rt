@@ -1,14 +1,15 @@
 //! Runs of the top call: over files in memory, where calls may fail, and over the examples.
 //!
 //! Fields of a row are `replay OPTIONS | WHEEL | CAPTURE`; or `prefixes | WHEEL | CAPTURE` for all that the capture begins with; or
-//! `WORDS | FAILING | WHEEL | CAPTURE` where a call of the shelf or a write on out fails; or `WORDS | REPORT` over the files beside
-//! the program, with the file of what out gets. A blank stands between two words, `~` for a blank in a word, and `�` in a file for
+//! `WORDS | FAILING | WHEEL | CAPTURE` where a call of the shelf, or a write on out or on notes, fails, or out is a stream that has room
+//! for so many bytes; or `WORDS | REPORT` over the files beside the program, with the file of what out gets. A blank stands between two words, `~` for a blank in a word, and `�` in a file for
 //! the byte 255, which no text has.
 #![tactic(auto)]
 
 mod examples;
 mod memory;
 mod prefixes;
+mod streams;
 
 use examples::told_of_files;
 use memory::{bytes_of, told_of_replay, told_of_words};
@@ -16,6 +17,7 @@ use prefixes::told_of_prefixes;
 use rows::{Tells, check};
 use std::alloc::{AllocError, Global};
 use std::io;
+use streams::told_of_stream;
 
 /// Tells what a run leaves: what out got, the status, and what notes got.
 #[derive(Drop)]
@@ -33,7 +35,10 @@ impl Tells for Runs<'_> {
             }
             [words, failing, wheel, capture] => {
                 let files = (bytes_of(alloc, wheel)?, bytes_of(alloc, capture)?);
-                told_of_words(alloc, words, failing, (&files.0, &files.1))
+                match failing.strip_prefix("room ") {
+                    Some(room) => told_of_stream(alloc, words, room, (&files.0, &files.1)),
+                    None => told_of_words(alloc, words, failing, (&files.0, &files.1)),
+                }
             }
             _ => Ok(None),
         }

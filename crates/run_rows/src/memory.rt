@@ -38,7 +38,11 @@ fn file_of(alloc: Global, name: &str, bytes: &[u8]) -> Result<(String, Vec<u8>),
 }
 
 /// A shelf with the files `wheel` and `capture`.
-fn shelf_of(alloc: Global, files: (&[u8], &[u8]), fails: Vec<u64>) -> Result<MemShelf, AllocError> {
+pub fn shelf_of(
+    alloc: Global,
+    files: (&[u8], &[u8]),
+    fails: Vec<u64>,
+) -> Result<MemShelf, AllocError> {
     let mut all = Vec::new(alloc);
     all.push(file_of(alloc, "wheel", files.0)?)?;
     all.push(file_of(alloc, "capture", files.1)?)?;
@@ -72,7 +76,7 @@ pub fn outcome_of(
 ) -> Result<Outcome, AllocError> {
     let mut shelf = shelf_of(alloc, files, fails_of(alloc, failing, "shelf")?)?;
     let mut out = MemSink::new(alloc, fails_of(alloc, failing, "out")?);
-    let mut notes = MemSink::new(alloc, Vec::new(alloc));
+    let mut notes = MemSink::new(alloc, fails_of(alloc, failing, "notes")?);
     let words = words_of(alloc, words)?;
     let status = run(
         alloc,

@@ -1,5 +1,5 @@
 -- Whole files and whole texts.
-use Rattle.std.specs.Prelude.{ℕ, ◌+◌, ◌^◌, ◌<◌, ◌≤◌, List, length, take}
+use Rattle.std.specs.Prelude.{ℕ, ◌+◌, ◌^◌, ◌<◌, ◌≤◌, List, length, take, Result, Ok, Err, ⊤}
 use Rattle.std.specs.declared.option.Option.{Option}
 use Rattle.std.specs.Io.KnownBytes.{Appends}
 use Rattle.shelf_io.specs.declared.fault.PutFault.{PutFault}
@@ -21,6 +21,12 @@ pub record PutFront (old new : Option (List ℕ)) (piece : List ℕ) (fault : Pu
 abbrev pub PutCause : Type 0 → PutFault → Type 0
 PutCause rose (Failed n) = rose
 PutCause rose (Memory n) = Unit {0}
+
+-- what holds of every end of a put but a failure
+abbrev pub UnlessFailed : Type 0 → Result Unit PutFault → Type 0
+UnlessFailed fact (Ok x) = fact
+UnlessFailed fact (Err (Failed n)) = ⊤
+UnlessFailed fact (Err (Memory n)) = fact
 
 -- how many bytes were given before a fault of loading: more than 2^28 exactly where the fault is that
 abbrev pub IsGiven : LoadFault → ℕ → Type 0

@@ -1,5 +1,5 @@
 // Standard output or standard error as a sink.
-ghost use Rattle.std.specs.Prelude.{◌≡◌, ◌<◌, ◌≤◌, [], length, take, drop, IfOk, OnOk};
+ghost use Rattle.std.specs.Prelude.{◌≡◌, ◌<◌, ◌≤◌, [], length, take, drop, IfOk, IfErr, OnOk};
 ghost use Rattle.std.specs.Io.KnownBytes.{Appends, Keeps, WriteAppends, append_known};
 ghost use Rattle.shelf_traits.specs.Count.{Fits, HasCause};
 
@@ -13,14 +13,13 @@ const BUFFER: usize = 1 << 16;
 /// A stream of the system, as standard output, as a sink.
 ///
 /// Over a terminal each write goes straight on. Over all else taken bytes wait in a buffer of 64
-/// KiB, and are handed on when a write finds it full and by [`StdSink::finish`], which a program
-/// calls at its end. The first write takes the buffer's memory, and answers `Memory` where there is
-/// none.
+/// KiB, and are handed on when a write finds it full and by [`Sink::hand_on`], which also flushes the
+/// stream. The first write takes the buffer's memory, and answers `Memory` where there is none.
 ///
 /// The count rises at each fault of the stream, and where it takes nothing. Bytes that were taken
 /// and could not be handed on go on waiting, in their order and before all later ones: the next
-/// write that finds the buffer full or `finish` tries them again, and fails while they wait. So no
-/// taken byte is lost unless the last `finish` fails or is left out.
+/// write that finds the buffer full or `hand_on` tries them again, and fails while they wait. So no
+/// taken byte is lost unless the last `hand_on` fails or is left out.
 #[derive(Drop)]
 pub struct StdSink<W: Write + Drop> {
     inner: W,
@@ -71,10 +70,11 @@ impl<W: Write + Drop> StdSink<W> {
         }
     }
 
-    // Hands on what waits. What the stream refuses goes on waiting.
-    fn hand_on(&mut self) -> Result<(), IoFault>
+    // Writes what waits. What the stream refuses goes on waiting.
+    fn write_waiting(&mut self) -> Result<(), IoFault>
         ensures told { Keeps (append_known (W.contents self.old.inner) self.old.waiting.items) (append_known (W.contents self.new.inner) self.new.waiting.items) }
         ensures all { OnOk result (self.new.waiting.items ≡ []) }
+        ensures kinds { IfErr result (λ e. e ≡ IoFault.Failed) }
         ensures cause { HasCause self.old.faults self.new.faults result }
     {
         let written = hand_out(&self.waiting, &mut self.inner);
@@ -97,7 +97,7 @@ impl<W: Write + Drop> StdSink<W> {
         if waiting < BUFFER {
             return Ok(BUFFER - waiting);
         }
-        self.hand_on()?;
+        self.write_waiting()?;
         Ok(BUFFER)
     }
 
@@ -107,7 +107,7 @@ impl<W: Write + Drop> StdSink<W> {
         ensures bytes { WriteAppends (append_known (W.contents self.old.inner) self.old.waiting.items) (append_known (W.contents self.new.inner) self.new.waiting.items) result piece.now }
         ensures cause { HasCause self.old.faults self.new.faults result }
     {
-        self.hand_on()?;
+        self.write_waiting()?;
         match self.inner.write(piece) {
             Ok(taken) if taken > 0 => Ok(taken),
             _ => {
@@ -116,30 +116,17 @@ impl<W: Write + Drop> StdSink<W> {
             }
         }
     }
-
-    /// Hands on what waits. Call it when no more is written: at `Failed`, which comes only where the
-    /// count rose, some taken bytes may not have gone out.
-    pub fn finish(&mut self) -> Result<(), IoFault>
-        ensures told { Keeps (append_known (W.contents self.old.inner) self.old.waiting.items) (append_known (W.contents self.new.inner) self.new.waiting.items) }
-        ensures all { OnOk result (self.new.waiting.items ≡ []) }
-        ensures cause { HasCause self.old.faults self.new.faults result }
-    {
-        self.hand_on()?;
-        if self.inner.flush().is_err() {
-            self.faults = self.faults.saturating_add(1);
-            return Err(IoFault::Failed);
-        }
-        Ok(())
-    }
 }
 
 impl<W: Write + Drop> Sink for StdSink<W> {
-    ghost use Rattle.std.specs.Prelude.{false};
+    ghost use Rattle.std.specs.Prelude.{false, length};
 
     ghost faults = { λ s. s.faults };
 
     // told where the stream tells its bytes, as those of the system do not
     ghost taken = { λ s. append_known (W.contents s.inner) s.waiting.items };
+
+    ghost waiting = { λ s. length s.waiting.items };
 
     ghost steady = { λ s. false };
 
@@ -152,5 +139,14 @@ impl<W: Write + Drop> Sink for StdSink<W> {
         let count = piece.len().min(room);
         self.waiting.extend_from_slice(&piece[..count])?;
         Ok(count)
+    }
+
+    fn hand_on(&mut self) -> Result<(), IoFault> {
+        self.write_waiting()?;
+        if self.inner.flush().is_err() {
+            self.faults = self.faults.saturating_add(1);
+            return Err(IoFault::Failed);
+        }
+        Ok(())
     }
 }

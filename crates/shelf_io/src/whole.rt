@@ -3,7 +3,7 @@ ghost use Rattle.std.specs.Prelude.{◌≡◌, ◌<◌, ◌≤◌, ◌+◌, ◌-
 ghost use Rattle.std.specs.Io.KnownBytes.{Appends};
 ghost use Rattle.shelf_traits.specs.Count.{Rose, Fits};
 ghost use Rattle.shelf_traits.specs.Shelf.{CountsFit, IsReader, IsWriter, Passed, ReadsOn, WritesOn, left_at, file_at, given_of};
-ghost use Rattle.shelf_io.specs.Whole.{IsGiven, PutFront, PutCause, written_of};
+ghost use Rattle.shelf_io.specs.Whole.{IsGiven, PutFront, PutCause, UnlessFailed, written_of};
 
 use crate::{IoFault, LoadFault, PutFault, Shelf, Sink};
 use std::alloc::Global;
@@ -26,6 +26,7 @@ pub fn write_all<O: Sink>(sink: &mut O, piece: &[u8]) -> Result<(), PutFault>
     ensures ok { OnOk result (Appends (O.taken sink.old) (O.taken sink.new) piece.now) }
     ensures err { IfErr result (PutFront (O.taken sink.old) (O.taken sink.new) piece.now) }
     ensures cause { IfErr result (PutCause (Rose (O.faults sink.old) (O.faults sink.new))) }
+    ensures quiet { UnlessFailed (O.faults sink.new ≡ O.faults sink.old) result }
     ensures fits { Fits (O.faults sink.old) → Fits (O.faults sink.new) }
 {
     let mut written = 0;
@@ -56,6 +57,7 @@ pub fn read_all<S: Shelf>(alloc: Global, shelf: &mut S, slot: u32) -> Result<Vec
     requires { IsReader (S.view shelf.old) slot }
     ensures keeps { ReadsOn (S.view shelf.old) (S.view shelf.new) slot }
     ensures cause { IsErrOf result LoadFault.Failed → Rose (S.view shelf.old).faults_in (S.view shelf.new).faults_in }
+    ensures quiet { ¬ IsErrOf result LoadFault.Failed → (S.view shelf.new).faults_in ≡ (S.view shelf.old).faults_in }
     ensures calm { IsTrue (S.view shelf.old).steady → ¬ IsErrOf result LoadFault.Failed }
     ensures short { IfOk result (λ bytes. length bytes.items ≤ 2 ^ 28) }
     ensures whole { IsTrue (S.view shelf.old).tells → IfOk result (λ bytes. bytes.items ≡ left_at (S.view shelf.old) slot) }
@@ -101,6 +103,7 @@ pub fn put_all<S: Shelf>(shelf: &mut S, slot: u32, piece: &[u8]) -> Result<(), P
         file_at (S.view shelf.new) slot ≡ file_at (S.view shelf.old) slot ++ take (written_of e) piece.now) }
     ensures short { IfErr result (λ e. written_of e < length piece.now) }
     ensures cause { IfErr result (PutCause (Rose (S.view shelf.old).faults_out (S.view shelf.new).faults_out)) }
+    ensures quiet { UnlessFailed ((S.view shelf.new).faults_out ≡ (S.view shelf.old).faults_out) result }
     ensures calm { IsTrue (S.view shelf.old).steady → IfErr result (PutCause ⊥) }
     ensures fits { CountsFit (S.view shelf.old) → CountsFit (S.view shelf.new) }
 {

@@ -58,7 +58,7 @@ pub fn put_in_stream(alloc: Global, is_terminal: bool, room: &[u64]) -> Result<S
     };
     let mut sink = StdSink::new(alloc, &mut stream, is_terminal);
     let (whole, fault) = put_words(&mut sink);
-    let finished = sink.finish().is_ok();
+    let finished = sink.hand_on().is_ok();
     drop(sink);
     let text = String::from_utf8_lossy(alloc, &stream.bytes)?;
     format!(in alloc; "{whole} {fault:?}; {finished}; {text}")

@@ -64,6 +64,7 @@ pub record WritesOn (v w : View) (slot : ℕ) : Type 0 where
 pub record Opens (v w : View) (name : List ℕ) (result : Result ℕ IoFault) : Type 0 where
   pub no_less : v.faults_in ≤ w.faults_in
   pub failed : IsErrOf result Failed → Rose v.faults_in w.faults_in
+  pub quiet : ¬ IsErrOf result Failed → w.faults_in ≡ v.faults_in
   pub out : w.faults_out ≡ v.faults_out
   pub slot : IfOk result (λ slot. (slot ≡ length v.ways) × (w.ways ≡ v.ways ++ Reads ∷ []))
   pub no_slot : OnErr result (w.ways ≡ v.ways)
@@ -80,6 +81,7 @@ pub record Opens (v w : View) (name : List ℕ) (result : Result ℕ IoFault) : 
 pub record Creates (v w : View) (name : List ℕ) (result : Result ℕ IoFault) : Type 0 where
   pub no_less : v.faults_out ≤ w.faults_out
   pub failed : IsErrOf result Failed → Rose v.faults_out w.faults_out
+  pub quiet : ¬ IsErrOf result Failed → w.faults_out ≡ v.faults_out
   pub reads : w.faults_in ≡ v.faults_in
   pub slot : IfOk result (λ slot. (slot ≡ length v.ways) × (w.ways ≡ v.ways ++ Writes ∷ []))
   pub no_slot : OnErr result (w.ways ≡ v.ways)

@@ -19,6 +19,7 @@ pub enum Way {
 /// Slots are numbered from 0 in the order in which `open` and `create` gave them. The shelf counts
 /// the faults of `open` and `read`, and those of `create` and `write`. Neither count ever falls, and
 /// each stops at the greatest u64: one that stands there after a call is said to have risen in it.
+/// A call that does not answer `Failed` leaves both.
 ///
 /// Some shelves tell contracts the bytes of every file, and for each slot its file's name and its
 /// place, the number of bytes read from it. A shelf that tells may also be steady, which no call

@@ -1,7 +1,7 @@
 //! Ends of runs, with their statuses and their lines on notes.
 
 use capture_core::{Column, CsvFault, VcdFault};
-use run_ends::{Cause, finish};
+use run_ends::{Cause, Done, Limit, NoTable, NoWheel, Refusal, finish};
 use shelf_io::MemSink;
 use std::alloc::{AllocError, Global};
 use wheel_pattern::{Key, PatternFault, TableFault};
@@ -10,36 +10,50 @@ use wheel_types::{Channel, WheelFault};
 /// The causes that rows give by their numbers here.
 const CAUSES: [Cause; 18] = [
     Cause::Usage,
-    Cause::Wheel(PatternFault::NotToml),
-    Cause::Wheel(PatternFault::MissingKey { key: Key::Cam2High }),
-    Cause::Wheel(PatternFault::BadValue { key: Key::Ratio }),
-    Cause::Wheel(PatternFault::Wheel(WheelFault::SlotValue { at: u64::MAX })),
-    Cause::Wheel(PatternFault::Wheel(WheelFault::Phasing { cam: Channel::Cam2 })),
-    Cause::TooManyPlaces,
-    Cause::Table(TableFault::TwoArrays),
-    Cause::Table(TableFault::BadText { at: 0 }),
-    Cause::Csv(CsvFault::NoColumn {
+    Cause::Refused(Refusal::Wheel(NoWheel {
+        fault: PatternFault::NotToml,
+    })),
+    Cause::Refused(Refusal::Wheel(NoWheel {
+        fault: PatternFault::MissingKey { key: Key::Cam2High },
+    })),
+    Cause::Refused(Refusal::Wheel(NoWheel {
+        fault: PatternFault::BadValue { key: Key::Ratio },
+    })),
+    Cause::Refused(Refusal::Wheel(NoWheel {
+        fault: PatternFault::Wheel(WheelFault::SlotValue { at: u64::MAX }),
+    })),
+    Cause::Refused(Refusal::Wheel(NoWheel {
+        fault: PatternFault::Wheel(WheelFault::Phasing { cam: Channel::Cam2 }),
+    })),
+    Cause::Limit(Limit::Places),
+    Cause::Refused(Refusal::Table(NoTable {
+        fault: TableFault::TwoArrays,
+    })),
+    Cause::Refused(Refusal::Table(NoTable {
+        fault: TableFault::BadText { at: 0 },
+    })),
+    Cause::Refused(Refusal::Csv(CsvFault::NoColumn {
         column: Column::Time,
-    }),
-    Cause::Csv(CsvFault::BadLevel {
+    })),
+    Cause::Refused(Refusal::Csv(CsvFault::BadLevel {
         row: 4,
         column: Column::Crank,
-    }),
-    Cause::Csv(CsvFault::TimeTooFine { row: 10 }),
-    Cause::Vcd(VcdFault::WideSignal {
+    })),
+    Cause::Refused(Refusal::Csv(CsvFault::TimeTooFine { row: 10 })),
+    Cause::Refused(Refusal::Vcd(VcdFault::WideSignal {
         channel: Channel::Cam1,
-    }),
-    Cause::Vcd(VcdFault::Cut { at: 184 }),
+    })),
+    Cause::Refused(Refusal::Vcd(VcdFault::Cut { at: 184 })),
     Cause::ReadFault,
     Cause::WriteFault,
     Cause::Memory,
-    Cause::FileLimit,
+    Cause::Limit(Limit::File),
 ];
 
 /// The end that a number gives; a dash is the end of a run that is done.
-fn end_of(number: &str) -> Option<Result<(), Cause>> {
+fn end_of(number: &str) -> Option<Result<Done, Cause>> {
     if number == "-" {
-        return Some(Ok(()));
+        return Some(Ok(Done::Whole));
     }
     let number = number.parse::<usize>().ok()?;
     let cause = CAUSES.get(number)?;
@@ -60,7 +74,7 @@ pub fn told_of_end(
         fails.push(0)?;
     }
     let mut notes = MemSink::new(alloc, fails);
-    let status = finish(end, &mut notes);
+    let status = finish(end, &[], &mut notes);
     let line = String::from_utf8_lossy(alloc, notes.bytes())?;
     let slash = if line.is_empty() { "" } else { " / " };
     Ok(Some(format!(in alloc; "{end:?} / {status:?}{slash}{line}")?))

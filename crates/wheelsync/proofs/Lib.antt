@@ -1,7 +1,9 @@
+pub mod FileNames
 pub mod Sayings
 pub mod OneReport
 pub mod Reports
 pub mod WholeReports
 pub mod Putting
 pub mod Endings
-pub mod Replays
+pub mod Completing
+pub mod HowItEnds

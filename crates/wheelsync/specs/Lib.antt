@@ -3,5 +3,10 @@ pub mod Sayings
 pub mod Headline
 pub mod Outputs
 pub mod Stepping
-pub mod Ending
+pub mod Captures
+pub mod Complete
+pub mod Replay
+pub mod Import
+pub mod Commands
+pub mod Endings
 pub mod Laws

@@ -4,6 +4,7 @@
 //! that a report is exactly what the permitted motions prove.
 #![tactic(auto)]
 
+mod capture;
 mod commands;
 mod import;
 mod laws;
@@ -13,7 +14,7 @@ mod tap;
 mod top;
 
 pub use commands::serve;
-pub use laws::one_report;
+pub use laws::{imports_end, one_report, replays_end};
 pub use pair_certificate::report_line;
 pub use put::put_report;
 pub use run_ends::Status;

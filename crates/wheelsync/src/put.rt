@@ -1,5 +1,5 @@
 //! Writing a report line by line.
-ghost use Rattle.std.specs.Prelude.{◌≡◌, ◌≤◌, ◌<◌, ◌^◌, ◌∷◌, [], ◌<ℤ◌, List, Some, None, IfOk, IfErr, IfSome, OnOk, OnErr, IsErrOf, unsigned_abs};
+ghost use Rattle.std.specs.Prelude.{◌≡◌, ◌≤◌, ◌<◌, ◌^◌, ◌∷◌, [], ◌<ℤ◌, List, Some, None, IfOk, IfErr, IfSome, OnOk, OnErr, IsErrOf, IsTrue, unsigned_abs};
 ghost use Rattle.std.specs.Io.KnownBytes.{Appends};
 ghost use Rattle.shelf_traits.specs.Count.{Rose};
 ghost use Rattle.wheel_types.specs.declared.parts.WheelParts.{WheelParts};
@@ -7,7 +7,7 @@ ghost use Rattle.wheel_types.specs.declared.instant.Instant.{Instant as Moment};
 ghost use Rattle.wheel_types.specs.declared.verdict.Verdict.{Verdict as Judgement};
 ghost use Rattle.wheel_types.specs.Verdicts.{IsRising, AreWithin};
 ghost use Rattle.plain_motion.specs.Sets.{last_of};
-ghost use Rattle.wheelsync.specs.Stepping.{EndsWriting};
+ghost use Rattle.run_ends.specs.Works.{StopsWrite};
 ghost use Rattle.run_ends.specs.Prefixes.{AppendsPrefix};
 ghost use Rattle.wheelsync.specs.Outputs.{GetsReport};
 ghost use Rattle.wheelsync.specs.Stepping.{StandsOver, GetsLine, GetsLineFront, GetsSteppedFront};
@@ -24,8 +24,11 @@ pub fn put<O: Sink>(out: &mut O, text: &[u8]) -> Result<(), Cause>
     ensures later { O.faults out.old ≤ O.faults out.new }
     ensures ok { OnOk result (Appends (O.taken out.old) (O.taken out.new) text.now) }
     ensures err { OnErr result (AppendsPrefix (O.taken out.old) (O.taken out.new) text.now) }
-    ensures kinds { IfErr result EndsWriting }
+    ensures kinds { IfErr result StopsWrite }
     ensures write { IsErrOf result Cause.WriteFault → Rose (O.faults out.old) (O.faults out.new) }
+    ensures quiet { ¬ IsErrOf result Cause.WriteFault → O.faults out.new ≡ O.faults out.old }
+    ensures steady { IsTrue (O.steady out.old) → IsTrue (O.steady out.new) }
+    ensures calm { IsTrue (O.steady out.old) → ¬ IsErrOf result Cause.WriteFault }
 {
     match write_all(out, text) {
         Ok(()) => Ok(()),
@@ -50,8 +53,11 @@ fn put_instant<O: Sink>(
         → GetsLine (O.taken out.old) (O.taken out.new) w set.new index instant.now past verdicts) }
     ensures err { OnErr result ((w : WheelParts) (past : List Moment) (verdicts : List Judgement) → StandsOver w set.old past verdicts
         → GetsLineFront (O.taken out.old) (O.taken out.new) w index instant.now past verdicts) }
-    ensures kinds { IfErr result EndsWriting }
+    ensures kinds { IfErr result StopsWrite }
     ensures write { IsErrOf result Cause.WriteFault → Rose (O.faults out.old) (O.faults out.new) }
+    ensures quiet { ¬ IsErrOf result Cause.WriteFault → O.faults out.new ≡ O.faults out.old }
+    ensures steady { IsTrue (O.steady out.old) → IsTrue (O.steady out.new) }
+    ensures calm { IsTrue (O.steady out.old) → ¬ IsErrOf result Cause.WriteFault }
 {
     let verdict = match set.step(instant) {
         Ok(verdict) => verdict,
@@ -83,8 +89,11 @@ pub fn put_report<O: Sink>(
     ensures later { O.faults out.old ≤ O.faults out.new }
     ensures ok { OnOk result ((w : WheelParts) → StandsOver w set.old [] [] → GetsReport (O.taken out.old) (O.taken out.new) w instants.now) }
     ensures err { OnErr result ((w : WheelParts) → StandsOver w set.old [] [] → GetsSteppedFront (O.taken out.old) (O.taken out.new) w instants.now) }
-    ensures kinds { IfErr result EndsWriting }
+    ensures kinds { IfErr result StopsWrite }
     ensures write { IsErrOf result Cause.WriteFault → Rose (O.faults out.old) (O.faults out.new) }
+    ensures quiet { ¬ IsErrOf result Cause.WriteFault → O.faults out.new ≡ O.faults out.old }
+    ensures steady { IsTrue (O.steady out.old) → IsTrue (O.steady out.new) }
+    ensures calm { IsTrue (O.steady out.old) → ¬ IsErrOf result Cause.WriteFault }
 {
     for (number, instant) in instants.iter().enumerate() {
         put_instant(alloc, out, set, number as u64 + 1, instant)?;

@@ -1,17 +1,14 @@
 //! The command `replay`.
-ghost use Rattle.std.specs.Prelude.{◌≡◌, ◌≤◌, IsTrue, IfErr, IsErrOf, Some};
-ghost use Rattle.shelf_traits.specs.Count.{Rose};
-ghost use Rattle.run_files.specs.Loading.{LoadsOn};
+ghost use Rattle.std.specs.Prelude.{[], None};
 ghost use Rattle.command_words.specs.Options.{options_of};
-ghost use Rattle.run_files.specs.Causes.{RunGives, IsMissing};
-ghost use Rattle.run_ends.specs.Statuses.{status_of};
-ghost use Rattle.wheelsync.specs.Ending.{OutGets, OutKeeps};
-ghost use Rattle.command_words.specs.Words.{Replay};
+ghost use Rattle.run_ends.specs.Serving.{Served, stream};
+ghost use Rattle.wheelsync.specs.Replay.{IsReplay};
 
+use crate::capture::load_named;
 use crate::put_report;
 use command_words::Options;
-use run_ends::Cause;
-use run_files::{Model, ended, load_capture, load_model};
+use run_ends::{Cause, Done};
+use run_files::{Model, ended, load_model};
 use shelf_io::{Shelf, Sink};
 use std::alloc::Global;
 
@@ -24,23 +21,16 @@ pub fn replay<S: Shelf, O: Sink>(
     options: Options<'_>,
     shelf: &mut S,
     out: &mut O,
-) -> Result<(), Cause>
-    ensures keeps { LoadsOn (S.view shelf.old) (S.view shelf.new) }
-    ensures later { O.faults out.old ≤ O.faults out.new }
-    ensures words { ¬ IsErrOf result Cause.Usage }
-    ensures read { IsErrOf result Cause.ReadFault → Rose (S.view shelf.old).faults_in (S.view shelf.new).faults_in }
-    ensures write { IsErrOf result Cause.WriteFault → Rose (O.faults out.old) (O.faults out.new) }
-    ensures quiet { OutKeeps (Some (Replay model.now capture.now (options_of options.entry))) (O.taken out.old) (O.taken out.new) (status_of result) }
-    ensures gives { IsTrue (S.view shelf.old).tells → IfErr result (RunGives (S.view shelf.old).file (Replay model.now capture.now (options_of options.entry))) }
-    ensures missing { IsTrue (S.view shelf.old).tells → IsTrue (S.view shelf.old).steady → IsErrOf result Cause.ReadFault → IsMissing (S.view shelf.old).file (Replay model.now capture.now (options_of options.entry)) }
-    ensures wrote { IsTrue (S.view shelf.old).tells → OutGets (S.view shelf.old).file (Replay model.now capture.now (options_of options.entry)) (O.taken out.old) (O.taken out.new) (status_of result) }
+) -> Result<Done, Cause>
+    ensures { Served (IsReplay (S.view shelf.old) model.now capture.now (options_of options.entry)) None (S.view shelf.old) (S.view shelf.new)
+        (stream (O.faults out.old) (O.taken out.old) (O.steady out.old)) (stream (O.faults out.new) (O.taken out.new) (O.steady out.new)) [] result }
 {
     let Model {
         wheel,
         edges,
         mut set,
     } = load_model(alloc, shelf, model)?;
-    let capture = load_capture(alloc, shelf, capture, options, &wheel, &edges)?;
+    let capture = load_named(alloc, shelf, capture, options, &wheel, &edges)?;
     put_report(alloc, out, &mut set, capture.instants.as_slice())?;
     ended(capture.end)
 }

@@ -1,12 +1,9 @@
 //! The top call.
-ghost use Rattle.std.specs.Prelude.{◌≡◌, ◌≤◌, ◌⊎◌, map, string_bytes, IsTrue, IfSome, None, ⊤};
-ghost use Rattle.shelf_traits.specs.Count.{Rose};
+ghost use Rattle.std.specs.Prelude.{◌≡◌, ◌⊎◌, [], None, IsTrue, IfSome, map, string_bytes};
 ghost use Rattle.command_words.specs.Words.{command_of};
-ghost use Rattle.run_files.specs.Loading.{LoadsOn};
-ghost use Rattle.run_files.specs.Causes.{RunGives, IsMissing};
-ghost use Rattle.run_ends.specs.Noted.{NotesGet};
-ghost use Rattle.wheelsync.specs.Ending.{OutGets, OutKeeps};
-ghost use Rattle.run_files.specs.Complete.{AreReady};
+ghost use Rattle.run_ends.specs.Serving.{Ran, NoneFailed, WentOut, stream};
+ghost use Rattle.wheelsync.specs.Complete.{AreReady};
+ghost use Rattle.wheelsync.specs.Commands.{IsWork};
 
 use crate::{Tap, serve};
 use run_ends::{Status, finish};
@@ -28,34 +25,26 @@ pub fn run<S: Shelf, O: Sink, N: Sink>(
     notes: &mut N,
     taps: Vec<Box<dyn Tap>>,
 ) -> Status
+    // Some work that the words' relation allows is what the shelf, out and notes show of it, and the status is that of its end.
+    ensures ran { Ran (IsWork (S.view shelf.old) (command_of (map string_bytes words.now))) None (S.view shelf.old) (S.view shelf.new)
+        (stream (O.faults out.old) (O.taken out.old) (O.steady out.old)) (stream (O.faults out.new) (O.taken out.new) (O.steady out.new))
+        (stream (N.faults notes.old) (N.taken notes.old) (N.steady notes.old)) (stream (N.faults notes.new) (N.taken notes.new) (N.steady notes.new)) result }
+
     // Usage comes where the words are no command, and nothing is opened then.
     ensures usage { result ≡ Status.Usage → command_of (map string_bytes words.now) ≡ None }
-    ensures no_command { command_of (map string_bytes words.now) ≡ None → (result ≡ Status.Usage) ⊎ ((result ≡ Status.WriteFault) ⊎ (result ≡ Status.Memory)) }
     ensures untouched { command_of (map string_bytes words.now) ≡ None → S.view shelf.new ≡ S.view shelf.old }
 
-    // A fault has its cause in a count that rose.
-    ensures keeps { LoadsOn (S.view shelf.old) (S.view shelf.new) }
-    ensures read { result ≡ Status.ReadFault → Rose (S.view shelf.old).faults_in (S.view shelf.new).faults_in }
-    ensures write { result ≡ Status.WriteFault → Rose (O.faults out.old) (O.faults out.new) ⊎ Rose (N.faults notes.old) (N.faults notes.new) }
-    ensures missing { IsTrue (S.view shelf.old).tells → IsTrue (S.view shelf.old).steady → result ≡ Status.ReadFault →
-        IfSome (command_of (map string_bytes words.now)) (IsMissing (S.view shelf.old).file) }
+    // Where the count of out or of notes rose in this call the status says so, and where none did nothing that out took waits.
+    ensures settled { WentOut result → (O.faults out.new ≡ O.faults out.old) × (N.faults notes.new ≡ N.faults notes.old) }
+    ensures handed { WentOut result → O.waiting out.old ≡ 0 → O.waiting out.new ≡ 0 }
 
-    // Where files are told, the line on notes is that of the first cause, in the order in which the files are read.
-    ensures ends { IsTrue (S.view shelf.old).tells → IfSome (command_of (map string_bytes words.now))
-        (λ order. NotesGet (RunGives (S.view shelf.old).file order) (Rose (O.faults out.old) (O.faults out.new)) (Rose (N.faults notes.old) (N.faults notes.new)) (N.taken notes.old) (N.taken notes.new) result) }
-
-    // What out and notes get.
-    ensures report { IsTrue (S.view shelf.old).tells → IfSome (command_of (map string_bytes words.now))
-        (λ order. OutGets (S.view shelf.old).file order (O.taken out.old) (O.taken out.new) result) }
-    ensures quiet { OutKeeps (command_of (map string_bytes words.now)) (O.taken out.old) (O.taken out.new) result }
-    ensures notes { NotesGet (λ e. ⊤) (Rose (O.faults out.old) (O.faults out.new)) (Rose (N.faults notes.old) (N.faults notes.new)) (N.taken notes.old) (N.taken notes.new) result }
-
-    // Accepted files over a steady shelf, with sinks whose counts do not rise, give Done or want of memory.
+    // Accepted files over a steady shelf, with sinks on which no write fails, give Done or want of memory.
     ensures complete { IsTrue (S.view shelf.old).tells → IsTrue (S.view shelf.old).steady
-        → (¬ Rose (O.faults out.old) (O.faults out.new)) → (¬ Rose (N.faults notes.old) (N.faults notes.new))
+        → NoneFailed (stream (O.faults out.old) (O.taken out.old) (O.steady out.old)) (stream (O.faults out.new) (O.taken out.new) (O.steady out.new))
+        → NoneFailed (stream (N.faults notes.old) (N.taken notes.old) (N.steady notes.old)) (stream (N.faults notes.new) (N.taken notes.new) (N.steady notes.new))
         → IfSome (command_of (map string_bytes words.now)) (λ order. AreReady (S.view shelf.old).file order → (result ≡ Status.Done) ⊎ (result ≡ Status.Memory)) }
 {
     let end = serve(alloc, words, shelf, out);
     drop(taps);
-    finish(end, notes)
+    finish(end, &[], notes)
 }

@@ -1,15 +1,18 @@
 //! The program: `main` makes the files and streams of the system and hands them to `run`, which does all that the program does.
 #![tactic(auto)]
 
-ghost use Rattle.std.specs.Prelude.{◌≡◌, ◌⊎◌, []};
+ghost use Rattle.std.specs.Prelude.{◌≡◌, ◌≤◌, OnOk, IsErrOf};
+ghost use Rattle.std.specs.Io.KnownBytes.{Appends};
+ghost use Rattle.shelf_traits.specs.Count.{Rose};
 
 mod help;
 
 use help::answer;
-use shelf_io::{RealShelf, Sink, StdSink, write_all};
+use run_ends::{Cause, Done, finish, hand_on};
+use shelf_io::{PutFault, RealShelf, Sink, StdSink, write_all};
 use std::alloc::AllocError;
 use std::env;
-use std::io::{ErrorKind, IsTerminal, Write};
+use std::io::{ErrorKind, IsTerminal};
 use std::process::ExitCode;
 use wheelsync::{Status, run};
 
@@ -26,18 +29,27 @@ fn words_of(rt: &HostRuntime) -> Result<Vec<String>, Status> {
     }
 }
 
-/// Hands on what waits for standard output. Where that fails the status is a write fault, whose line comes on notes where
-/// there is none yet.
-fn close<W: Write + Drop, N: Sink>(status: Status, out: &mut StdSink<W>, notes: &mut N) -> Status
-    ensures { ((result ≡ status) × (out.new.waiting.items ≡ [])) ⊎ (result ≡ Status.WriteFault) }
+/// Writes a page on out.
+fn write_page<O: Sink>(page: &[u8], out: &mut O) -> Result<Done, Cause>
+    ensures whole { OnOk result (Appends (O.taken out.old) (O.taken out.new) page.now) }
+    ensures later { O.faults out.old ≤ O.faults out.new }
+    ensures write { IsErrOf result Cause.WriteFault → Rose (O.faults out.old) (O.faults out.new) }
 {
-    if out.finish().is_ok() {
-        return status;
+    match write_all(out, page) {
+        Ok(()) => Ok(Done::Whole),
+        Err(PutFault::Failed { .. }) => Err(Cause::WriteFault),
+        Err(PutFault::Memory { .. }) => Err(Cause::Memory),
     }
-    if status == Status::Done {
-        let _ = write_all(notes, b"write fault\n");
-    }
-    Status::WriteFault
+}
+
+/// Writes a page on out, and hands it on.
+fn show<O: Sink>(page: &[u8], out: &mut O) -> Result<Done, Cause>
+    ensures whole { OnOk result (Appends (O.taken out.old) (O.taken out.new) page.now) }
+    ensures handed { OnOk result (O.waiting out.new ≡ 0) }
+    ensures write { IsErrOf result Cause.WriteFault → Rose (O.faults out.old) (O.faults out.new) }
+{
+    let end = write_page(page, out);
+    hand_on(end, out)
 }
 
 fn main(rt: HostRuntime) -> ExitCode {
@@ -50,10 +62,7 @@ fn main(rt: HostRuntime) -> ExitCode {
     let mut out = StdSink::new(rt.alloc(), stdout, is_terminal);
     let mut notes = StdSink::new(rt.alloc(), rt.stderr(), true);
     let status = match answer(&words) {
-        Some(text) => match write_all(&mut out, text) {
-            Ok(()) => Status::Done,
-            Err(_) => Status::WriteFault,
-        },
+        Some(page) => finish(show(page, &mut out), &[], &mut notes),
         None => {
             let mut shelf = RealShelf::new(rt.alloc(), &rt);
             run(
@@ -66,5 +75,5 @@ fn main(rt: HostRuntime) -> ExitCode {
             )
         }
     };
-    ExitCode::from(close(status, &mut out, &mut notes) as u8)
+    ExitCode::from(status as u8)
 }

@@ -7,5 +7,6 @@ loop-written-preserved g c = record {
   within = within_more _ _ c.args.piece.now c.loop-written.invariant.within c.in-Ok.ensures.count.1;
   front = λ h. file_more _ _ c.args.piece.now _ _ _ (c.loop-written.invariant.front h) (c.in-Ok.ensures.appends (c.loop-written.invariant.keeps.tells ∙ h));
   fits = λ h. c.in-Ok.ensures.fits;
+  same = c.in-Ok.ensures.cause.quiet (λ h. cc) ∙ c.loop-written.invariant.same;
   keeps = writes_on _ _ _ _ c.loop-written.invariant.keeps c.in-Ok.ensures.keeps;
 }

@@ -7,6 +7,7 @@ invariant-loop-written g l = record {
   within : l.written ≤ length l.piece;
   front : IsTrue (g.S.Shelf.view l.fn.shelf).tells → file_at (g.S.Shelf.view l.shelf) l.slot ≡ file_at (g.S.Shelf.view l.fn.shelf) l.slot ++ take l.written l.piece;
   fits : CountsFit (g.S.Shelf.view l.fn.shelf) → CountsFit (g.S.Shelf.view l.shelf);
+  same : (g.S.Shelf.view l.shelf).faults_out ≡ (g.S.Shelf.view l.fn.shelf).faults_out;
   keeps : WritesOn (g.S.Shelf.view l.fn.shelf) (g.S.Shelf.view l.shelf) l.slot;
 }
 

@@ -5,6 +5,7 @@ use Rattle.shelf_io.proofs.whole.read_all.Given as goal
 abbrev pub invariant-pieces : goal.invariant-pieces
 invariant-pieces g l = record {
   keeps : ReadsOn (g.S.Shelf.view l.fn.shelf) (g.S.Shelf.view l.shelf) l.fn.slot;
+  same : (g.S.Shelf.view l.shelf).faults_in ≡ (g.S.Shelf.view l.fn.shelf).faults_in;
   short : length l.bytes.items ≤ 2 ^ 28;
   given : IsTrue (g.S.Shelf.view l.fn.shelf).tells → left_at (g.S.Shelf.view l.fn.shelf) l.fn.slot ≡ l.bytes.items ++ left_at (g.S.Shelf.view l.shelf) l.fn.slot;
   name : IsTrue (g.S.Shelf.view l.fn.shelf).tells → ((g.S.Shelf.view l.shelf).place l.fn.slot).name ≡ ((g.S.Shelf.view l.fn.shelf).place l.fn.slot).name;

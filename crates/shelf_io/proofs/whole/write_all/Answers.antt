@@ -1,4 +1,4 @@
-use Rattle.std.proofs.Common.{arith, ◌∙◌}
+use Rattle.std.proofs.Common.{◌∙◌}
 use Rattle.shelf_io.proofs.Front.{appends_more, within_more}
 use Rattle.shelf_io.proofs.whole.write_all.Goals as goal
 
@@ -6,8 +6,6 @@ pub loop-written-preserved : goal.loop-written-preserved
 loop-written-preserved g c = record {
   within = within_more _ _ c.args.piece.now c.loop-written.invariant.within c.in-Ok.ensures.count.1;
   front = appends_more _ _ _ _ _ _ c.loop-written.invariant.front c.in-Ok.ensures.bytes;
-  later = omega (arith, c.loop-written.invariant.later, c.in-Ok.ensures.cause.later);
+  same = c.in-Ok.ensures.cause.quiet (λ h. cc) ∙ c.loop-written.invariant.same;
   steady = λ h. c.in-Ok.ensures.steady (c.loop-written.invariant.steady h);
-  fits = λ h. c.in-Ok.ensures.fits;
-  calm = λ h. c.in-Ok.ensures.calm (c.loop-written.invariant.steady h) ∙ c.loop-written.invariant.calm h;
 }

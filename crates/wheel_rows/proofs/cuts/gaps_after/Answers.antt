@@ -1,4 +1,4 @@
-use Rattle.std.proofs.Common.{◌≡◌, ℕ, ◌+◌, sym, ◌∙◌, subst, arith}
+use Rattle.std.proofs.Common.{◌≡◌, ℕ, sym, ◌∙◌, subst, arith}
 use Rattle.wheel_types.specs.declared.channel.Channel.TheVariants.{Crank}
 use Rattle.wheel_types.specs.Edges.{edge_count}
 use Rattle.gap_thresholds.specs.Gaps.{AreGaps}

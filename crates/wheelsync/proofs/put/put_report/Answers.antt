@@ -1,4 +1,4 @@
-use Rattle.std.proofs.Common.{◌≡◌, subst, arith, length}
+use Rattle.std.proofs.Common.{◌≡◌, ◌∙◌, subst, arith, length}
 use Rattle.std.proofs.lemmas.Result.{err_from_is_err_and}
 use Rattle.wheelsync.proofs.Putting.{HasPut, later_than_last, next_put, stopped, all_put}
 use Rattle.wheelsync.proofs.put.put_report.Goals as goal
@@ -14,7 +14,8 @@ returns-in_err-put_instant-clause-err g c =
 pub loop-number-preserved : goal.loop-number-preserved
 loop-number-preserved g c = record {
   put = next_put c.args.set.now c.loop-number.set c.put_instant.new.set _ _ _ c.args.instants.now c.loop-number.number _ c.loop-number-test.true c.index-instants-number.is c.loop-number.invariant.put c.in_ok-put_instant.ensures.last c.in_ok-put_instant.ensures.ok;
-  later = omega (arith, c.loop-number.invariant.later, c.in_ok-put_instant.ensures.later);
+  steady = λ h. c.in_ok-put_instant.ensures.steady (c.loop-number.invariant.steady h);
+  same = c.in_ok-put_instant.ensures.quiet (λ is. cc) ∙ c.loop-number.invariant.same;
 }
 
 pub returns-clause-ok : goal.returns-clause-ok

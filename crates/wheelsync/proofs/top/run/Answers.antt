@@ -1,32 +1,28 @@
-use Rattle.std.proofs.Common.{map, string_bytes}
-use Rattle.shelf_traits.specs.Count.{Rose}
+use Rattle.std.proofs.Common.{[], map, string_bytes}
+use Rattle.std.specs.Prelude.{IsTrue}
 use Rattle.command_words.specs.Words.{command_of}
-use Rattle.run_ends.proofs.Noted.{notes_of}
-use Rattle.wheelsync.proofs.Endings.{ends_of, out_of, complete_of, missing_of}
+use Rattle.run_ends.specs.Serving.{stream}
+use Rattle.wheelsync.proofs.Completing.{usage_alone, completes, end_went_out}
 use Rattle.wheelsync.proofs.top.run.Goals as goal
 
-pub returns-clause-ends : goal.returns-clause-ends
-returns-clause-ends g c = λ told.
-    ends_of (Rose (g.O.Sink.faults c.args.out.now) (g.O.Sink.faults c.serve-end.new.out)) (Rose (g.N.Sink.faults c.args.notes.now) (g.N.Sink.faults c.finish.new.notes))
-    (command_of (map string_bytes c.args.words.now)) (g.S.Shelf.view c.args.shelf.now).file
-    (g.N.Sink.taken c.args.notes.now) (g.N.Sink.taken c.finish.new.notes) c.serve-end.result c.finish.result (c.serve-end.ensures.gives told) c.serve-end.ensures.write c.finish.ensures.finished
+pub returns-clause-usage : goal.returns-clause-usage
+returns-clause-usage g c =
+    usage_alone (g.S.Shelf.view c.args.shelf.now) (g.S.Shelf.view c.serve-end.new.shelf) (command_of (map string_bytes c.args.words.now))
+    (stream (g.O.Sink.faults c.args.out.now) (g.O.Sink.taken c.args.out.now) (g.O.Sink.steady c.args.out.now)) (stream (g.O.Sink.faults c.serve-end.new.out) (g.O.Sink.taken c.serve-end.new.out) (g.O.Sink.steady c.serve-end.new.out))
+    (stream (g.N.Sink.faults c.args.notes.now) (g.N.Sink.taken c.args.notes.now) (g.N.Sink.steady c.args.notes.now)) (stream (g.N.Sink.faults c.finish.new.notes) (g.N.Sink.taken c.finish.new.notes) (g.N.Sink.steady c.finish.new.notes))
+    c.finish.result
+    (record { end = c.serve-end.result; tails = []; served = c.serve-end.ensures.served; noted = c.finish.ensures.finished; settled = c.finish.ensures.quiet; calm = c.finish.ensures.calm; later = c.finish.ensures.later })
 
-pub returns-clause-report : goal.returns-clause-report
-returns-clause-report g c = λ told.
-    out_of (Rose (g.N.Sink.faults c.args.notes.now) (g.N.Sink.faults c.finish.new.notes)) (command_of (map string_bytes c.args.words.now)) (g.S.Shelf.view c.args.shelf.now).file
-    (g.O.Sink.taken c.args.out.now) (g.O.Sink.taken c.serve-end.new.out) (g.N.Sink.taken c.args.notes.now) (g.N.Sink.taken c.finish.new.notes) c.serve-end.result c.finish.result
-    (c.serve-end.ensures.wrote told) c.finish.ensures.finished
+pub returns-clause-settled : goal.returns-clause-settled
+returns-clause-settled g c = λ out. ((c.serve-end.ensures.served.write_settled (end_went_out _ _ _ _ c.serve-end.result _ c.finish.ensures.finished out)).0, c.finish.ensures.quiet out.0)
 
-pub returns-clause-notes : goal.returns-clause-notes
-returns-clause-notes g c = notes_of _ _ _ _ c.serve-end.result c.finish.result c.serve-end.ensures.write c.finish.ensures.finished
+pub returns-clause-handed : goal.returns-clause-handed
+returns-clause-handed g c = λ out none. c.serve-end.ensures.handed (end_went_out _ _ _ _ c.serve-end.result _ c.finish.ensures.finished out) none
 
 pub returns-clause-complete : goal.returns-clause-complete
-returns-clause-complete g c = λ told steady out notes.
-    complete_of (Rose (g.O.Sink.faults c.args.out.now) (g.O.Sink.faults c.serve-end.new.out)) (Rose (g.N.Sink.faults c.args.notes.now) (g.N.Sink.faults c.finish.new.notes))
-    (command_of (map string_bytes c.args.words.now)) (g.S.Shelf.view c.args.shelf.now).file (g.N.Sink.taken c.args.notes.now) (g.N.Sink.taken c.finish.new.notes)
-    c.serve-end.result c.finish.result (c.serve-end.ensures.gives told) (c.serve-end.ensures.missing told steady) c.serve-end.ensures.write out notes c.finish.ensures.finished
-
-pub returns-clause-missing : goal.returns-clause-missing
-returns-clause-missing g c = λ told steady.
-    missing_of (Rose (g.N.Sink.faults c.args.notes.now) (g.N.Sink.faults c.finish.new.notes)) (command_of (map string_bytes c.args.words.now)) (g.S.Shelf.view c.args.shelf.now).file
-    (g.N.Sink.taken c.args.notes.now) (g.N.Sink.taken c.finish.new.notes) c.serve-end.result c.finish.result (c.serve-end.ensures.missing told steady) c.finish.ensures.finished
+returns-clause-complete g c =
+    completes (g.S.Shelf.view c.args.shelf.now) (g.S.Shelf.view c.serve-end.new.shelf) (command_of (map string_bytes c.args.words.now))
+    (stream (g.O.Sink.faults c.args.out.now) (g.O.Sink.taken c.args.out.now) (g.O.Sink.steady c.args.out.now)) (stream (g.O.Sink.faults c.serve-end.new.out) (g.O.Sink.taken c.serve-end.new.out) (g.O.Sink.steady c.serve-end.new.out))
+    (stream (g.N.Sink.faults c.args.notes.now) (g.N.Sink.taken c.args.notes.now) (g.N.Sink.steady c.args.notes.now)) (stream (g.N.Sink.faults c.finish.new.notes) (g.N.Sink.taken c.finish.new.notes) (g.N.Sink.steady c.finish.new.notes))
+    c.finish.result
+    (record { end = c.serve-end.result; tails = []; served = c.serve-end.ensures.served; noted = c.finish.ensures.finished; settled = c.finish.ensures.quiet; calm = c.finish.ensures.calm; later = c.finish.ensures.later })

@@ -1,4 +1,4 @@
-use Rattle.plain_motion.proofs.TimedSteps.{found_legal}
+use Rattle.legal_steps.proofs.TimedSteps.{found_legal}
 use Rattle.plain_motion.proofs.set.PlainSet.legal.Goals as goal
 
 pub returns : goal.returns

@@ -1,0 +1,146 @@
+#!/usr/bin/env python3
+"""Prints a table of rows with what the independent computations of this folder tell of them, where they can.
+
+usage: bench/rows.py TABLE | diff TABLE -
+
+Rows of sizes in crates/wheel_rows/stdin and all of crates/image_rows/stdin are told anew, and a named image is made anew from the
+line before it, `-- image SLOTS | PARTS:`. Other lines are printed as they stand.
+"""
+import re
+import sys
+from itertools import groupby
+
+from images import Fields, told_of_bytes, walked
+from reference import CHANNELS, Wheel
+from tables import image, size
+
+KINDS = ("dead", "at %d", "open %d %d")
+UNITS = {"fs": 1, "ms": 10**12}
+
+
+def repeated(text):
+    """The text in which a word as `3*10` is `10` three times."""
+    words = [word.rpartition("*") for word in text.split()]
+    return "".join(word * int(times or 1) for times, _, word in words)
+
+
+def wheel_of(slots, parts):
+    long = slots.removeprefix("alternating ")
+    slots = [int(digit) for digit in (repeated(slots) if slots == long else "10" * (int(long) // 2))]
+    file = {"slots": slots, "cam1": "both", "cam2": "both", "rpm_low": 60, "rpm_high": 6000, "ratio": (3, 2)}
+    for key, value in (part.split("=") for part in parts.split()):
+        pair = [int(number) for number in value.split(",")] if "," in value else None
+        if key in CHANNELS:
+            file |= dict(zip((key + "_early", key + "_late"), pair)) if pair else {key: value}
+        elif key == "rpm":
+            file["rpm_low"], file["rpm_high"] = pair
+        else:
+            file[key] = pair or int(value)
+    return Wheel(file)
+
+
+def image_of(hexadecimal, change=""):
+    """The bytes of an image after a change of it."""
+    b = bytes.fromhex(repeated(hexadecimal))
+    for key, value in (word.split("=") for word in change.split()):
+        if key == "first":
+            b = b[: int(value)]
+        else:
+            part = bytes.fromhex(repeated(value))
+            at = len(b) if key == "and" else int(key)
+            b = b[:at] + part + b[at + len(part) :]
+    return b
+
+
+def told_of_prefixes(b):
+    told = [told_of_bytes(b[:length]) for length in range(len(b) + 1)]
+    runs = [(told, [length for length, _ in run]) for told, run in groupby(enumerate(told), lambda pair: pair[1])]
+    return ", ".join("%s %d" % (told, run[0]) + ("-%d" % run[-1] if len(run) > 1 else "") for told, run in runs)
+
+
+def told_of_flips(b, mask):
+    groups = {}
+    for place in range(len(b)):
+        told = told_of_bytes(b[:place] + bytes([b[place] ^ int(mask, 16)]) + b[place + 1 :]).split()
+        at = int(told.pop()) if len(told) == 3 else 0
+        count, total = groups.get(" ".join(told), (0, 0))
+        groups[" ".join(told)] = count + 1, total + place * (at + 1)
+    return ", ".join("%s %d/%d" % (told, *group) for told, group in groups.items())
+
+
+def told_of_walk(b, text):
+    instants = []
+    for crank, cam1, cam2, time, unit in re.findall(r"(?:C(.))?(?:1(.))?(?:2(.))? (-?\d+)(ms|fs)", text):
+        edges = {c: polarity for c, polarity in zip(CHANNELS, (crank, cam1, cam2)) if polarity}
+        instants.append((int(time) * UNITS[unit], edges))
+    steps = [(told_of_kind(*verdict), state, reads) for verdict, state, reads in walked(Fields(b), instants)]
+    return "; ".join("%s in %d by %d" % step for step in steps).replace("dead", "lost")
+
+
+def told_of_kind(kind, a, b):
+    return KINDS[kind] % (a, b)[:kind]
+
+
+def told_of_fields(b):
+    fields = Fields(b)
+    wheel = fields.wheel()
+    at, cams = [slot for slot, _ in wheel.edges["crank"]], [len(wheel.edges[c]) for c in CHANNELS[1:]]
+    lists = [(at, "%d"), (cams, "%d"), (fields.entries(2), "%d:%d:%d"), (fields.entries(3), "%d"), (fields.entries(4), "%d/%d")]
+    counts = len(at), fields.places, fields.times, fields.ratios, fields.words, fields.width, fields.states
+    told = ["cranks %d, places %d, cuts %d %d, words %d, width %d, states %d" % counts]
+    told += [" ".join(shown % value for value in values) for values, shown in lists]
+    keep = " ".join(wheel.keep[c].capitalize() for c in CHANNELS)
+    told.append("%d %s, %d %d, %d %d, %d %d, %d/%d" % (wheel.degrees, keep, *fields.word[10:18]))
+    return "; ".join([*told, " ".join(map(str, wheel.slots))])
+
+
+def told_of_state(b, state):
+    fields = Fields(b)
+    phase, *kind = fields.entries(5)[state]
+    (members,) = fields.entries(6)[state]
+    row = "".join(" %d:%d" % pair for pair in enumerate(fields.row(state)) if pair[1])
+    return "phase %d %s, %s,%s" % (phase, told_of_kind(*kind), members[::-1].hex(), row)
+
+
+def told_of(kind, fields):
+    """What is told of a row, or None where these computations tell nothing of its kind."""
+    if kind == "size":
+        return size(wheel_of(*fields[:2]), int(fields[2]))
+    if kind in ("verify", "prefixes", "fields"):
+        return {"verify": told_of_bytes, "prefixes": told_of_prefixes, "fields": told_of_fields}[kind](image_of(*fields))
+    if kind in ("flips", "walk", "state"):
+        b = image_of(*fields[1:])
+        fault = told_of_bytes(b)
+        if fault != "image":
+            return fault
+        tells = {"flips": told_of_flips, "walk": told_of_walk, "state": lambda b, state: told_of_state(b, int(state))}
+        return tells[kind](b, fields[0])
+    return None
+
+
+def told_of_line(line, before, names):
+    if " => " in line:
+        run, was = line.split(" => ")
+        kind, *fields = [names.get(field, field) for field in run.split(" | ")]
+        told = told_of(kind, fields)
+        return run + " => " + (was if told is None else told)
+    if " := " in line:
+        name, text = line.split(" := ")
+        if of := re.fullmatch(r"-- image (.*) \| (.*):", before):
+            text = shortened(image(wheel_of(*of.groups())).hex())
+        names[name] = text
+        return name + " := " + text
+    return line
+
+
+def shortened(text):
+    """The hexadecimal text, in which `12*00` stands for a run of bytes."""
+    runs = [("".join(run), byte) for byte, run in groupby([text[at : at + 2] for at in range(0, len(text), 2)])]
+    return "".join(" %d*%s " % (len(run) // 2, byte) if len(run) > 6 else run for run, byte in runs).replace("  ", " ").strip()
+
+
+if __name__ == "__main__":
+    names, before = {}, ""
+    for line in open(sys.argv[1]):
+        print(told_of_line(line.rstrip("\n"), before, names))
+        before = line.strip()

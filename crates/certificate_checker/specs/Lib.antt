@@ -1,0 +1,10 @@
+pub mod Numbers
+pub mod Situations
+pub mod Rules
+pub mod Valid
+pub mod Reports
+pub mod Exact
+pub mod Answers
+pub mod Checking
+pub mod Stages
+pub mod Laws

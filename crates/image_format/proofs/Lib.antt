@@ -1,0 +1,4 @@
+pub mod Walking
+pub mod Phases
+pub mod Tables
+pub mod Wheels

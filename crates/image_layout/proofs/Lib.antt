@@ -1,0 +1,10 @@
+pub mod Below
+pub mod Firsts
+pub mod RowNumbers
+pub mod Counts
+pub mod Kept
+pub mod Images
+pub mod Written
+pub mod ReadBack
+pub mod WheelBack
+pub mod PartsKept

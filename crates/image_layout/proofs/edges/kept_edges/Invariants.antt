@@ -1,0 +1,13 @@
+use Rattle.std.proofs.Common.{◌≡◌, ◌<◌, ◌≤◌, length}
+use Rattle.std.specs.Prelude.{filter, is_some}
+use Rattle.wheel_types.specs.Edges.{edge_at, below, level_of, slot_before, keep_of}
+use Rattle.wheel_types.specs.declared.parts.WheelParts.{WheelParts}
+use Rattle.image_layout.proofs.edges.kept_edges.Given as goal
+
+abbrev pub invariant-loop-slot : goal.invariant-loop-slot
+invariant-loop-slot l = record {
+  few : l.count ≤ l.slot-index;
+  level : l.before < 2;
+  before : (w : WheelParts) → w.slots ≡ l.slots → l.before ≡ level_of w l.channel (slot_before w l.slot-index);
+  counted : (w : WheelParts) → w.slots ≡ l.slots → keep_of w l.channel ≡ l.keep → l.count ≡ length (filter (λ k. is_some (edge_at w l.channel k)) (below l.slot-index));
+}

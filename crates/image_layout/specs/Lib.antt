@@ -1,0 +1,11 @@
+pub mod Layout
+pub mod Fields
+pub mod Letters
+pub mod Keeps
+pub mod Tables
+pub mod Faults
+pub mod HeaderRules
+pub mod ListRules
+pub mod StateRules
+pub mod Rules
+pub mod Parts

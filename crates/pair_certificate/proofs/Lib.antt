@@ -1,0 +1,9 @@
+pub mod Digits
+pub mod Again
+pub mod TextLines
+pub mod ReportsAgain
+pub mod ReadLines
+pub mod CoversAgain
+pub mod CertAgain
+pub mod OneMeaning
+pub mod ReadBack

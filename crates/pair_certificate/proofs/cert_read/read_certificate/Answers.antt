@@ -1,0 +1,23 @@
+use Rattle.std.proofs.Common.{List, ℕ, take, drop, sym, ◌∙◌, subst}
+use Rattle.pair_certificate.specs.declared.line.CertLine.{CertLine}
+use Rattle.pair_certificate.specs.Readings.{IsCertLine}
+use Rattle.pair_certificate.proofs.Digits.{rest_whole}
+use Rattle.pair_certificate.proofs.ReadLines.{HasRead, read_more, read_bad, found_none, found_some, bad_cert}
+use Rattle.pair_certificate.proofs.cert_read.read_certificate.Goals as goal
+
+pub returns-in_default-clause-bad : goal.returns-in_default-clause-bad
+returns-in_default-clause-bad c = λ at e.
+    let rest = c.loop-rest.rest.now in
+    let line = take c.line_end-end.result rest in
+    read_bad IsCertLine c.args.bytes.now rest line (drop c.line_end-end.result rest) c.loop-rest.lines.items at c.line_end-end.ensures.line c.loop-rest.invariant
+    (found_none ((r : CertLine) → IsCertLine line r → ⊥) (λ r. IsCertLine line r) c.in_ok-line.field-0 c.in_default.is c.in_ok-line.ensures) (bad_cert c.len.result _ at e (c.len.ensures ∙ c.loop-rest.lines.ok.0))
+
+pub loop-rest-preserved : goal.loop-rest-preserved
+loop-rest-preserved c =
+    let rest = c.loop-rest.rest.now in
+    let end = c.line_end-end.result in
+    let line = take end rest in
+    let is = found_some ((r : CertLine) → IsCertLine line r → ⊥) (λ r. IsCertLine line r) c.in_ok-line.field-0 c.in-Some.line c.in-Some.is c.in_ok-line.ensures in
+    let more = read_more IsCertLine c.args.bytes.now rest line (drop end rest) c.loop-rest.lines.items c.in-Some.line c.line_end-end.ensures.line c.loop-rest.invariant is in
+    subst (λ (l : List ℕ). HasRead IsCertLine c.args.bytes.now l c.push.new.self.items) (sym (rest_whole rest end))
+    (subst (λ (v : List CertLine). HasRead IsCertLine c.args.bytes.now (drop end rest) v) (sym c.in_ok-push.ensures.items) more)

@@ -1,8 +1,0 @@
-use Rattle.std.proofs.Common.{take}
-use Rattle.plain_motion.specs.Windows.{times_of}
-use Rattle.plain_motion.specs.Ends.{GoesOnTo}
-use Rattle.plain_motion.proofs.Images.{AreImages}
-use Rattle.plain_motion.proofs.motions.Motions.next_walks.Given as goal
-
-abbrev pub invariant-loop-walk : goal.invariant-loop-walk
-invariant-loop-walk l = AreImages (GoesOnTo l.self.wheel.parts (times_of l.times) l.instant) (take l.walk-index l.walks) l.next.items

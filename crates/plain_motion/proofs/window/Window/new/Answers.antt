@@ -1,0 +1,45 @@
+use Rattle.std.proofs.Common.{◌≡◌, ◌+◌, ◌<◌, List, ◌∷◌, [], ◌++◌, take, take_all, get_or, refl, sym, subst, arith}
+use Rattle.std.proofs.lemmas.List.Elements.{All-contains}
+use Rattle.wheel_types.specs.declared.channel.Channel.TheVariants.{Crank}
+use Rattle.wheel_types.specs.declared.place.Place.{Place}
+use Rattle.wheel_types.specs.Edges.{edge_count}
+use Rattle.plain_motion.specs.declared.window.Walk.{Walk}
+use Rattle.plain_motion.specs.Ends.{IsTestedPlace, EndsOn}
+use Rattle.plain_motion.proofs.LeastPlaces.{take_one}
+use Rattle.plain_motion.proofs.Images.{AreImages, somewhere, images_start, images_some, all_from_contains}
+use Rattle.plain_motion.proofs.KeptWindows.{stays_at, keeps_none}
+use Rattle.plain_motion.proofs.window.Window.new.Goals as goal
+
+abbrev R : Place → Walk → Type 0
+R p v = v ≡ stays_at p
+
+pub loop-place-init : goal.loop-place-init
+loop-place-init c = subst (AreImages R []) (sym c.in_ok-walks.ensures.items) (images_start R)
+
+pub loop-place-preserved : goal.loop-place-preserved
+loop-place-preserved c =
+    let places = c.args.places.now in
+    let at = c.loop-place.place-index in
+    let place = get_or places at somewhere in
+    let next = sym (take_one places at somewhere c.loop-place-test.true) in
+    let more = images_some R (take at places) c.loop-place.walks.items place (stays_at place) c.loop-place.invariant refl (λ v h. h) in
+    subst (λ (vs : List Walk). AreImages R (take (at + 1) places) vs) (sym c.in_ok-push.ensures.items) (subst (λ (ps : List Place). AreImages R ps (c.loop-place.walks.items ++ stays_at place ∷ [])) next more)
+
+images : (c : goal.After-from_vec) → AreImages R c.args.places.now c.from_vec.result
+images c =
+    let places = c.args.places.now in
+    let all : take c.loop-place.place-index places ≡ places = take_all c.loop-place.place-index places c.loop-place-test.false in
+    subst (λ (ps : List Place). AreImages R ps c.from_vec.result) all (subst (λ (vs : List Walk). AreImages R (take c.loop-place.place-index places) vs) (sym c.from_vec.ensures) c.loop-place.invariant)
+
+pub returns-clause-fits : goal.returns-clause-fits
+returns-clause-fits c = λ w all. record {
+  ends = all_from_contains (EndsOn w) c.from_vec.result (λ v k.
+      let from = (images c v).0 k in
+      subst (EndsOn w) (sym from.1.1) (All-contains (IsTestedPlace w) c.args.places.now from.0 all from.1.0));
+  times = λ k d h. absurd (omega (arith, h));
+}
+
+pub returns-clause-keeps : goal.returns-clause-keeps
+returns-clause-keeps c = λ w is all.
+    let some : 0 < edge_count w Crank = omega (arith, is.crank_edge) in
+    keeps_none w _ c.args.places.now some all (images c) refl refl

@@ -1,0 +1,8 @@
+use Rattle.std.proofs.Common.{take}
+use Rattle.legal_steps.specs.Times.{times_of}
+use Rattle.plain_motion.specs.Ends.{GoesOnTo}
+use Rattle.plain_motion.proofs.Images.{AreImages}
+use Rattle.plain_motion.proofs.windows.next_walks.Given as goal
+
+abbrev pub invariant-loop-walk : goal.invariant-loop-walk
+invariant-loop-walk l = AreImages (GoesOnTo l.motions.wheel.parts (times_of l.times) l.instant) (take l.walk-index l.walks) l.next.items

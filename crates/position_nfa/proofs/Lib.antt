@@ -1,0 +1,13 @@
+pub mod Gaps
+pub mod Rows
+pub mod Numbers
+pub mod WalkTables
+pub mod Cleared
+pub mod SamePlaces
+pub mod Filters
+pub mod Shapes
+pub mod Built
+pub mod States
+pub mod Dead
+pub mod Legal
+pub mod Steps

@@ -1,0 +1,78 @@
+-- How work ends, by its parts.
+use Rattle.std.proofs.Common.{◌≡◌, ℕ, ◌⊎◌, inl, inr, List, Option, None, Some, Result, Ok, Err, refl, sym, ◌∙◌, subst, ap}
+use Rattle.std.specs.Prelude.{IsTrue}
+use Rattle.shelf_traits.specs.Shelf.{View}
+use Rattle.run_ends.specs.declared.cause.Done.{Done}
+use Rattle.run_ends.specs.declared.cause.Cause.{Cause}
+use Rattle.run_ends.specs.declared.cause.Cause.TheVariants as cause
+use Rattle.run_ends.specs.Works.{Work, Told, Reads, Writes, HandsOn, StopsOpen, StopsRead, StopsWrite, Went}
+
+-- a fact of the end, by the ways in which a file can go
+pub reads_end : {X : Type 0} (v : View) (name : List ℕ) (gives : Cause → Type 0) (accepts : X → Type 0) (next : X → Work → Type 0) (P : Result Done Cause → Type 0) (work : Work)
+    → ((e : Cause) → StopsOpen v name e → P (Err e)) → ((e : Cause) → StopsRead v gives e → P (Err e)) → ((x : X) (rest : Work) → Told v (accepts x) → next x rest → P rest.end)
+    → Reads v name gives accepts next work → P work.end
+reads_end {X} v name gives accepts next P work opening reading go r = by r.went
+  where
+    by : Went v name gives accepts next work → P work.end
+    by (inl (e, (s, is))) = subst (λ (k : Work). P k.end) (sym is) (opening e s)
+    by (inr (inl (e, (taken, (s, is))))) = subst (λ (k : Work). P k.end) (sym is) (reading e s)
+    by (inr (inr (x, (taken, (rest, (a, (n, is))))))) = subst (λ (k : Work). P k.end) (sym is) (go x rest a n)
+
+pub writes_end : (due : List ℕ → Result Done Cause → Type 0) (P : Result Done Cause → Type 0) (work : Work) → ((text : List ℕ) (end : Result Done Cause) → due text end → P end)
+    → ((e : Cause) → StopsWrite e → P (Err e)) → Writes due work → P work.end
+writes_end due P work whole stop (inl (text, (end, (d, is)))) = subst (λ (k : Work). P k.end) (sym is) (whole text end d)
+writes_end due P work whole stop (inr (inl (text, (end, (k, (e, (d, (within, (s, is))))))))) = subst (λ (k : Work). P k.end) (sym is) (stop e s)
+writes_end due P work whole stop (inr (inr is)) = subst (λ (k : Work). P k.end) (sym is) (stop cause.Memory tt)
+
+pub hands_end : (next : Work → Type 0) (P : Result Done Cause → Type 0) (work : Work) → ((rest : Work) → next rest → P rest.end) → P (Err cause.WriteFault) → HandsOn next work → P work.end
+hands_end next P work as_before cut (inl n) = as_before work n
+hands_end next P work as_before cut (inr (rest, (n, is))) = subst (λ (k : Work). P k.end) (sym is) cut
+
+-- a file that is there, and accepted, over a steady shelf: the work goes on with its value, or wants memory
+pub reads_ready : {X : Type 0} (v : View) (name : List ℕ) (gives : Cause → Type 0) (accepts : X → Type 0) (next : X → Work → Type 0) (P : Result Done Cause → Type 0) (bytes : List ℕ) (x : X) (work : Work)
+    → IsTrue v.tells → IsTrue v.steady → v.file name ≡ Some bytes → ((e : Cause) → gives e → ⊥) → ((y : X) → accepts y → y ≡ x) → P (Err cause.Memory) → ((rest : Work) → next x rest → P rest.end)
+    → Reads v name gives accepts next work → P work.end
+reads_ready v name gives accepts next P bytes x work told steady there none one memory go r =
+    reads_end v name gives accepts next P work opening reading (λ y rest a n. go rest (subst (λ z. next z rest) (one y (a told)) n)) r
+  where
+    opening : (e : Cause) → StopsOpen v name e → P (Err e)
+    opening cause.ReadFault s = let gone : Some bytes ≡ None = sym there ∙ s told steady in absurd (cc)
+    opening cause.Memory s = memory
+    opening cause.Usage s = absurd s
+    opening (cause.Refused r) s = absurd s
+    opening (cause.Limit l) s = absurd s
+    opening cause.WriteFault s = absurd s
+
+    reading : (e : Cause) → StopsRead v gives e → P (Err e)
+    reading cause.ReadFault s = absurd (s steady)
+    reading cause.Memory s = memory
+    reading cause.Usage s = absurd s
+    reading (cause.Refused r) s = absurd (none (cause.Refused r) (s told))
+    reading (cause.Limit l) s = absurd (none (cause.Limit l) (s told))
+    reading cause.WriteFault s = absurd s
+
+-- no work ends for usage
+
+pub open_not_usage : (v : View) (name : List ℕ) (e : Cause) → StopsOpen v name e → e ≡ cause.Usage → ⊥
+open_not_usage v name cause.Usage s is = s
+open_not_usage v name cause.ReadFault s is = cc
+open_not_usage v name cause.Memory s is = cc
+open_not_usage v name cause.WriteFault s is = s
+open_not_usage v name (cause.Refused r) s is = s
+open_not_usage v name (cause.Limit l) s is = s
+
+pub read_not_usage : (v : View) (gives : Cause → Type 0) (e : Cause) → StopsRead v gives e → e ≡ cause.Usage → ⊥
+read_not_usage v gives cause.Usage s is = s
+read_not_usage v gives cause.ReadFault s is = cc
+read_not_usage v gives cause.Memory s is = cc
+read_not_usage v gives cause.WriteFault s is = s
+read_not_usage v gives (cause.Refused r) s is = cc
+read_not_usage v gives (cause.Limit l) s is = cc
+
+pub write_not_usage : (e : Cause) → StopsWrite e → e ≡ cause.Usage → ⊥
+write_not_usage cause.Usage s is = s
+write_not_usage cause.ReadFault s is = s
+write_not_usage cause.Memory s is = cc
+write_not_usage cause.WriteFault s is = cc
+write_not_usage (cause.Refused r) s is = s
+write_not_usage (cause.Limit l) s is = s

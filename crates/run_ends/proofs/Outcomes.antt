@@ -1,0 +1,28 @@
+-- What out got and how work ended, by its parts.
+use Rattle.std.proofs.Common.{◌≡◌, ℕ, ◌≤◌, ◌⊎◌, inl, inr, List, [], length, take, Result, Ok, Err, refl, sym, subst}
+use Rattle.shelf_traits.specs.Shelf.{View}
+use Rattle.run_ends.specs.declared.cause.Done.{Done}
+use Rattle.run_ends.specs.declared.cause.Cause.{Cause}
+use Rattle.run_ends.specs.declared.cause.Cause.TheVariants as cause
+use Rattle.run_ends.specs.Works.{Work, Told, Reads, Writes, HandsOn, StopsOpen, StopsRead, StopsWrite, Went}
+
+pub reads_out : {X : Type 0} (v : View) (name : List ℕ) (gives : Cause → Type 0) (accepts : X → Type 0) (next : X → Work → Type 0) (P : Result Done Cause → List ℕ → Type 0) (work : Work)
+    → ((e : Cause) → StopsOpen v name e → P (Err e) []) → ((e : Cause) → StopsRead v gives e → P (Err e) []) → ((x : X) (rest : Work) → Told v (accepts x) → next x rest → P rest.end rest.out)
+    → Reads v name gives accepts next work → P work.end work.out
+reads_out {X} v name gives accepts next P work opening reading go r = by r.went
+  where
+    by : Went v name gives accepts next work → P work.end work.out
+    by (inl (e, (s, is))) = subst (λ (k : Work). P k.end k.out) (sym is) (opening e s)
+    by (inr (inl (e, (taken, (s, is))))) = subst (λ (k : Work). P k.end k.out) (sym is) (reading e s)
+    by (inr (inr (x, (taken, (rest, (a, (n, is))))))) = subst (λ (k : Work). P k.end k.out) (sym is) (go x rest a n)
+
+pub writes_out : (due : List ℕ → Result Done Cause → Type 0) (P : Result Done Cause → List ℕ → Type 0) (work : Work) → ((text : List ℕ) (end : Result Done Cause) → due text end → P end text)
+    → ((e : Cause) (text : List ℕ) (end : Result Done Cause) (k : ℕ) → due text end → k ≤ length text → StopsWrite e → P (Err e) (take k text)) → P (Err cause.Memory) [] → Writes due work → P work.end work.out
+writes_out due P work whole stop none (inl (text, (end, (d, is)))) = subst (λ (k : Work). P k.end k.out) (sym is) (whole text end d)
+writes_out due P work whole stop none (inr (inl (text, (end, (k, (e, (d, (within, (s, is))))))))) = subst (λ (k : Work). P k.end k.out) (sym is) (stop e text end k d within s)
+writes_out due P work whole stop none (inr (inr is)) = subst (λ (k : Work). P k.end k.out) (sym is) none
+
+pub hands_out : (next : Work → Type 0) (P : Result Done Cause → List ℕ → Type 0) (work : Work) → ((rest : Work) → next rest → P rest.end rest.out) → ((end : Result Done Cause) (out : List ℕ) → P end out → P (Err cause.WriteFault) out)
+    → HandsOn next work → P work.end work.out
+hands_out next P work as_before cut (inl n) = as_before work n
+hands_out next P work as_before cut (inr (rest, (n, is))) = subst (λ (k : Work). P k.end k.out) (sym is) (cut rest.end rest.out (as_before rest n))

@@ -1,6 +1,0 @@
-use Rattle.std.proofs.Common.{◌≡◌, drop}
-use Rattle.run_files.specs.Files.{is_dump}
-use Rattle.run_files.proofs.capture_file.is_value_change_dump.Given as goal
-
-abbrev pub invariant-loop-byte : goal.invariant-loop-byte
-invariant-loop-byte l = is_dump l.bytes ≡ is_dump (drop l.byte-index l.bytes)

@@ -1,0 +1,11 @@
+pub mod Draws
+pub mod Gaps
+pub mod GapsOf
+pub mod Cams
+pub mod CamsOf
+pub mod Drawn
+pub mod Changes
+pub mod Files
+pub mod Written
+pub mod ReadBack
+pub mod Laws

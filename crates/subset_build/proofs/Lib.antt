@@ -1,0 +1,3 @@
+pub mod FamilyLaws
+pub mod Limits
+pub mod Reached

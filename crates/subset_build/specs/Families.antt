@@ -1,0 +1,70 @@
+-- The family of a set automaton, and what fills its limit.
+use Rattle.std.specs.Prelude.{◌≡◌, ℕ, ◌<◌, ◌≤◌, false, List, length, Option, Some, Contains}
+use Rattle.std.specs.List.{list_any, IsDistinct}
+use Rattle.position_nfa.specs.declared.pair.Pair.{Pair}
+use Rattle.position_nfa.specs.Alphabets.{Alphabet, width}
+use Rattle.position_nfa.specs.Step.{same, next_state, dead_state, start_state}
+use Rattle.subset_build.specs.Family as family
+
+-- some word of letters leads from the start to the state, where words have their last letter first
+abbrev pub IsReached : Alphabet → Pair → Type 0
+IsReached a p = (word : List ℕ) × family.Reaches same (next_state a) (width a) (dead_state a) (start_state a) word p
+
+-- the states are those that some word of letters reaches, each once
+pub record IsLeastFamily (a : Alphabet) (states : List Pair) : Type 0 where
+  pub once : IsDistinct same states
+  pub sound : (p : Pair) → Contains states p → IsReached a p
+  pub whole : (p : Pair) → IsReached a p → Contains states p
+
+-- more states than the limit are reached
+pub record HasMore (a : Alphabet) (limit : ℕ) : Type 0 where
+  pub states : List Pair
+  pub once : IsDistinct same states
+  pub sound : (p : Pair) → Contains states p → IsReached a p
+  pub many : limit < length states
+
+-- the states in the order of their numbers: to take the letters of them all adds none
+abbrev pub IsNumbering : Alphabet → List Pair → Type 0
+IsNumbering a states = family.IsNumbering same (next_state a) (width a) (dead_state a) (start_state a) states
+
+-- the states that have a number once the letters of the first n of them were taken
+abbrev pub explored : Alphabet → ℕ → List Pair
+explored a n = family.explored same (next_state a) (width a) (dead_state a) (start_state a) n
+
+-- the states after the letters of the first columns of the state q
+abbrev pub taken : Alphabet → List Pair → Pair → ℕ → List Pair
+taken a states q column = family.taken same (next_state a) (width a) (dead_state a) (start_state a) states q column
+
+-- the states with this one, which gets the next number if it has none
+abbrev pub numbered : Alphabet → List Pair → Pair → List Pair
+numbered a states p = family.numbered same (next_state a) (width a) (dead_state a) (start_state a) states p
+
+-- the same where a letter leads to one
+abbrev pub numbered_if : Alphabet → List Pair → Option Pair → List Pair
+numbered_if a states o = family.numbered_if same (next_state a) (width a) (dead_state a) (start_state a) states o
+
+-- the state has no number, and there is no room for one
+pub record IsFull (states : List Pair) (limit : ℕ) (p : Pair) : Type 0 where
+  pub absent : list_any (same p) states ≡ false
+  pub full : limit ≤ length states
+
+-- the column is a letter of the state q that leads to one without a number, and there is no room for one
+pub record LeadsToFull (a : Alphabet) (states : List Pair) (limit : ℕ) (q : Pair) (column : ℕ) : Type 0 where
+  pub next : Pair
+  pub leads : next_state a q column ≡ Some next
+  pub full : IsFull states limit next
+
+-- so does one of the letters of q, once those before it were taken
+pub record FillsUp (a : Alphabet) (states : List Pair) (limit : ℕ) (q : Pair) : Type 0 where
+  pub column : ℕ
+  pub within : column < width a
+  pub full : LeadsToFull a (taken a states q column) limit q column
+
+-- the states are the empty set and those that some word reaches, each once
+abbrev pub IsFamily : Alphabet → List Pair → Type 0
+IsFamily a states = family.IsFamily same (next_state a) (width a) (dead_state a) (start_state a) states
+
+-- the family has more states than the limit: so many of its members are known
+abbrev pub IsPastLimit : Alphabet → ℕ → Type 0
+IsPastLimit a limit =
+    (states : List Pair) × family.IsPart same (next_state a) (width a) (dead_state a) (start_state a) states × (limit < length states)

@@ -1,0 +1,4 @@
+pub mod Family
+pub mod Families
+pub mod Limit
+pub mod Views

@@ -1,0 +1,163 @@
+-- What follows of a run from what its work may come to.
+use Rattle.std.proofs.Common.{◌≡◌, ℕ, ◌⊎◌, inl, inr, List, Option, None, Some, IfSome, Result, Ok, Err, refl, sym, ◌∙◌, subst, ap}
+use Rattle.std.specs.Prelude.{IsTrue}
+use Rattle.shelf_traits.specs.Count.{Rose}
+use Rattle.shelf_traits.specs.Shelf.{View}
+use Rattle.capture_core.specs.declared.capture.End.{End}
+use Rattle.capture_core.specs.declared.capture.End.TheVariants.{Clean, Csv, Vcd}
+use Rattle.command_words.specs.Options.{Options}
+use Rattle.command_words.specs.Words.{Order, Replay, Import}
+use Rattle.run_ends.specs.declared.cause.Done.{Done}
+use Rattle.run_ends.specs.declared.cause.Done.TheVariants as done
+use Rattle.run_ends.specs.declared.cause.Cause.{Cause}
+use Rattle.run_ends.specs.declared.cause.Cause.TheVariants as cause
+use Rattle.run_ends.specs.declared.status.Status.{Status}
+use Rattle.run_ends.specs.declared.status.Status.TheVariants as status
+use Rattle.run_ends.specs.Statuses.{status_of}
+use Rattle.run_ends.specs.Finishing.{HasNoted, FailedNote, notes_text}
+use Rattle.run_ends.specs.Works.{Work, Reads, Writes, HandsOn, StopsWrite, stopped}
+use Rattle.run_ends.specs.Serving.{Stream, Ran, NoneFailed, WentOut}
+use Rattle.run_files.specs.Causes.{FileGives, ModelGives, SourceGives, ended_by}
+use Rattle.run_files.specs.Files.{HasPlacedWheel, HasTable}
+use Rattle.wheelsync.specs.Complete.{AreReady}
+use Rattle.run_files.proofs.Ready.{model_gives_none, file_gives_none, source_gives_none, file_has_one_wheel, file_has_one_table}
+use Rattle.wheelsync.specs.Captures.{HasNamedCapture}
+use Rattle.wheelsync.proofs.FileNames.{file_has_one_capture}
+use Rattle.run_ends.proofs.Noting.{due_or_memory}
+use Rattle.run_ends.proofs.Completing.{reads_end, writes_end, hands_end, reads_ready, open_not_usage, read_not_usage, write_not_usage}
+use Rattle.wheelsync.specs.Replay.{IsReplay}
+use Rattle.wheelsync.specs.Import.{IsImport}
+use Rattle.wheelsync.specs.Commands.{IsWork}
+use Rattle.wheelsync.proofs.Endings.{IsReported, IsSlotsLine}
+
+-- the work is done, or wanted memory, or a write failed
+abbrev pub IsSettled : Result Done Cause → Type 0
+IsSettled end = (end ≡ Ok done.Whole) ⊎ ((end ≡ Err cause.Memory) ⊎ (end ≡ Err cause.WriteFault))
+
+settled_stop : (e : Cause) → StopsWrite e → IsSettled (Err e)
+settled_stop cause.WriteFault s = inr (inr refl)
+settled_stop cause.Memory s = inr (inl refl)
+settled_stop cause.Usage s = absurd s
+settled_stop cause.ReadFault s = absurd s
+settled_stop (cause.Refused r) s = absurd s
+settled_stop (cause.Limit l) s = absurd s
+
+-- over accepted files and a steady shelf
+replay_settles : (v : View) (m c : List ℕ) (o : Options) (work : Work) → IsTrue v.tells → IsTrue v.steady → AreReady v.file (Replay m c o) → IsReplay v m c o work → IsSettled work.end
+replay_settles v m c o work told steady (w, (k, a)) r =
+    reads_ready v m (ModelGives v.file m) (HasPlacedWheel v.file m) (λ w. Reads v c (FileGives v.file c) (HasNamedCapture v.file c w o) (λ k. Writes (IsReported w k))) IsSettled
+    a.files.model_file.wheel.bytes w work told steady a.files.model_file.wheel.holds.there (model_gives_none v.file m w a.files.model_file)
+    (λ u h. file_has_one_wheel v.file m u w h.wheel a.files.model_file.wheel) (inr (inl refl))
+    (λ rest n.
+    reads_ready v c (FileGives v.file c) (HasNamedCapture v.file c w o) (λ k. Writes (IsReported w k)) IsSettled a.files.capture_file.bytes k rest told steady a.files.capture_file.holds.there
+    (file_gives_none v.file c a.files.capture_file.bytes a.files.capture_file.holds) (λ d h. file_has_one_capture v.file c w o d k h a.files.capture_file) (inr (inl refl))
+    (λ last p. writes_end (IsReported w k) IsSettled last (λ text end d. inl (d.1 ∙ ap ended_by a.clean)) settled_stop p) n)
+    r
+
+import_settles : (v : View) (source name : List ℕ) (work : Work) → IsTrue v.tells → IsTrue v.steady → AreReady v.file (Import source name) → IsImport v source name work → IsSettled work.end
+import_settles v source name work told steady (slots, h) r =
+    reads_ready v source (SourceGives v.file source name) (HasTable v.file source name) (λ slots. Writes (IsSlotsLine slots)) IsSettled h.bytes slots work told steady h.holds.there
+    (source_gives_none v.file source name slots h) (λ other k. file_has_one_table v.file source name other slots k h) (inr (inl refl))
+    (λ last p. writes_end (IsSlotsLine slots) IsSettled last (λ text end d. inl d.1) settled_stop p) r
+
+settles : (v : View) (order : Order) (work : Work) → IsTrue v.tells → IsTrue v.steady → AreReady v.file order → IsWork v (Some order) work → IsSettled work.end
+settles v (Replay m c o) work told steady ready r = hands_end (IsReplay v m c o) IsSettled work (λ rest n. replay_settles v m c o rest told steady ready n) (inr (inr refl)) r
+settles v (Import source name) work told steady ready r = hands_end (IsImport v source name) IsSettled work (λ rest n. import_settles v source name rest told steady ready n) (inr (inr refl)) r
+
+by_settled : (v w : View) (allows : Work → Type 0) (out new notes after : Stream) (s : Status) → (r : Ran allows None v w out new notes after s) → IsTrue v.steady
+    → NoneFailed out new → NoneFailed notes after → IsSettled r.served.work.end → (s ≡ status.Done) ⊎ (s ≡ status.Memory)
+by_settled v w allows out new notes after s r steady a b settled = by settled
+  where
+    not_noted : NoneFailed notes after → FailedNote notes.faults after.faults (IsTrue notes.steady) → ⊥
+    not_noted (inl still) f = f.unsteady still
+    not_noted (inr none) f = none f.rose
+
+    not_written : NoneFailed out new → Rose out.faults new.faults ⊎ ⊥ → r.end ≡ Err cause.WriteFault → ⊥
+    not_written (inl still) rose is = r.served.calm is still steady
+    not_written (inr none) (inl rose) is = none rose
+    not_written (inr none) (inr never) is = never
+
+    due : (s ≡ status_of r.end) ⊎ (s ≡ status.Memory)
+    due = due_or_memory (FailedNote notes.faults after.faults (IsTrue notes.steady)) notes.taken after.taken (notes_text r.end r.tails) (status_of r.end) s (not_noted b) r.noted
+
+    by_due : (t : Status) → status_of r.end ≡ t → (s ≡ status_of r.end) ⊎ (s ≡ status.Memory) → (s ≡ t) ⊎ (s ≡ status.Memory)
+    by_due t is (inl same) = inl (same ∙ is)
+    by_due t is (inr m) = inr m
+
+    memory_only : (s ≡ status.Memory) ⊎ (s ≡ status.Memory) → (s ≡ status.Done) ⊎ (s ≡ status.Memory)
+    memory_only (inl m) = inr m
+    memory_only (inr m) = inr m
+
+    by : IsSettled r.served.work.end → (s ≡ status.Done) ⊎ (s ≡ status.Memory)
+    by (inl is) = by_due status.Done (ap status_of (r.served.ends ∙ is)) due
+    by (inr (inl is)) = memory_only (by_due status.Memory (ap status_of (r.served.ends ∙ is)) due)
+    by (inr (inr is)) = let fault = r.served.ends ∙ is in absurd (not_written a (r.served.write fault) fault)
+
+-- a run is complete
+pub completes : (v w : View) (order : Option Order) (out new notes after : Stream) (s : Status) → Ran (IsWork v order) None v w out new notes after s → IsTrue v.tells → IsTrue v.steady
+    → NoneFailed out new → NoneFailed notes after → IfSome order (λ order. AreReady v.file order → (s ≡ status.Done) ⊎ (s ≡ status.Memory))
+completes v w None out new notes after s r told steady a b = tt
+completes v w (Some order) out new notes after s r told steady a b =
+    λ ready. by_settled v w (IsWork v (Some order)) out new notes after s r steady a b (settles v order r.served.work told steady ready r.served.allowed)
+
+-- ---- usage
+
+ended_not_usage : (end : End) → ended_by end ≡ Err cause.Usage → ⊥
+ended_not_usage Clean is = cc
+ended_not_usage (Csv fault) is = cc
+ended_not_usage (Vcd fault) is = cc
+
+not_cause : (e : Cause) → (e ≡ cause.Usage → ⊥) → ◌≡◌ {A = Result Done Cause} (Err e) (Err cause.Usage) → ⊥
+not_cause e n is = let same : e ≡ cause.Usage = cc in n same
+
+replay_not_usage : (v : View) (m c : List ℕ) (o : Options) (work : Work) → IsReplay v m c o work → work.end ≡ Err cause.Usage → ⊥
+replay_not_usage v m c o work r =
+    reads_end v m (ModelGives v.file m) (HasPlacedWheel v.file m) (λ w. Reads v c (FileGives v.file c) (HasNamedCapture v.file c w o) (λ k. Writes (IsReported w k))) (λ end. end ≡ Err cause.Usage → ⊥) work
+    (λ e s. not_cause e (open_not_usage v m e s)) (λ e s. not_cause e (read_not_usage v (ModelGives v.file m) e s))
+    (λ w rest a n.
+    reads_end v c (FileGives v.file c) (HasNamedCapture v.file c w o) (λ k. Writes (IsReported w k)) (λ end. end ≡ Err cause.Usage → ⊥) rest
+    (λ e s. not_cause e (open_not_usage v c e s)) (λ e s. not_cause e (read_not_usage v (FileGives v.file c) e s))
+    (λ k last b p. writes_end (IsReported w k) (λ end. end ≡ Err cause.Usage → ⊥) last (λ text end d is. ended_not_usage k.end (sym d.1 ∙ is)) (λ e s. not_cause e (write_not_usage e s)) p) n)
+    r
+
+import_not_usage : (v : View) (source name : List ℕ) (work : Work) → IsImport v source name work → work.end ≡ Err cause.Usage → ⊥
+import_not_usage v source name work r =
+    reads_end v source (SourceGives v.file source name) (HasTable v.file source name) (λ slots. Writes (IsSlotsLine slots)) (λ end. end ≡ Err cause.Usage → ⊥) work
+    (λ e s. not_cause e (open_not_usage v source e s)) (λ e s. not_cause e (read_not_usage v (SourceGives v.file source name) e s))
+    (λ slots last a p. writes_end (IsSlotsLine slots) (λ end. end ≡ Err cause.Usage → ⊥) last (λ text end d is. let no : ◌≡◌ {A = Result Done Cause} (Ok done.Whole) (Err cause.Usage) = sym d.1 ∙ is in cc) (λ e s. not_cause e (write_not_usage e s)) p)
+    r
+
+work_not_usage : (v : View) (order : Order) (work : Work) → IsWork v (Some order) work → work.end ≡ Err cause.Usage → ⊥
+work_not_usage v (Replay m c o) work r =
+    hands_end (IsReplay v m c o) (λ end. end ≡ Err cause.Usage → ⊥) work (λ rest n. replay_not_usage v m c o rest n) (not_cause cause.WriteFault (λ is. cc)) r
+work_not_usage v (Import source name) work r =
+    hands_end (IsImport v source name) (λ end. end ≡ Err cause.Usage → ⊥) work (λ rest n. import_not_usage v source name rest n) (not_cause cause.WriteFault (λ is. cc)) r
+
+usage_end : (end : Result Done Cause) → status_of end ≡ status.Usage → end ≡ Err cause.Usage
+usage_end (Ok done.Whole) is = absurd (cc)
+usage_end (Ok done.No) is = absurd (cc)
+usage_end (Err cause.Usage) is = refl
+usage_end (Err (cause.Refused r)) is = absurd (cc)
+usage_end (Err (cause.Limit l)) is = absurd (cc)
+usage_end (Err cause.ReadFault) is = absurd (cc)
+usage_end (Err cause.WriteFault) is = absurd (cc)
+usage_end (Err cause.Memory) is = absurd (cc)
+
+noted_usage : (failed : Type 0) (old new : Option (List ℕ)) (text : List ℕ) (end : Result Done Cause) (s : Status) → HasNoted failed old new text (status_of end) s → s ≡ status.Usage → end ≡ Err cause.Usage
+noted_usage failed old new text end s (inl (same, a)) is = usage_end end (sym same ∙ is)
+noted_usage failed old new text end s (inr (inl (same, a))) is = absurd (cc)
+noted_usage failed old new text end s (inr (inr (same, a))) is = absurd (cc)
+
+-- usage comes only where the words are no command
+pub usage_alone : (v w : View) (order : Option Order) (out new notes after : Stream) (s : Status) → Ran (IsWork v order) None v w out new notes after s → s ≡ status.Usage → order ≡ None
+usage_alone v w None out new notes after s r is = refl
+usage_alone v w (Some order) out new notes after s r is =
+    absurd (work_not_usage v order r.served.work r.served.allowed (sym r.served.ends ∙ noted_usage (FailedNote notes.faults after.faults (IsTrue notes.steady)) notes.taken after.taken (notes_text r.end r.tails) r.end s r.noted is))
+
+-- ---- writes that went through
+
+-- where they did, the work did not end for a write fault
+pub end_went_out : (failed : Type 0) (old new : Option (List ℕ)) (text : List ℕ) (end : Result Done Cause) (s : Status) → HasNoted failed old new text (status_of end) s → WentOut s → end ≡ Err cause.WriteFault → ⊥
+end_went_out failed old new text end s (inl (same, a)) out is = out.0 (same ∙ ap status_of is)
+end_went_out failed old new text end s (inr (inl (same, a))) out is = out.0 same
+end_went_out failed old new text end s (inr (inr (same, a))) out is = out.1 same
