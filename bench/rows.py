@@ -12,7 +12,7 @@ from itertools import groupby
 
 from images import Fields, told_of_bytes, walked
 from reference import CHANNELS, Wheel
-from tables import image, size
+from tables import MOST, image, size
 
 KINDS = ("dead", "at %d", "open %d %d")
 UNITS = {"fs": 1, "ms": 10**12}
@@ -102,10 +102,42 @@ def told_of_state(b, state):
     return "phase %d %s, %s,%s" % (phase, told_of_kind(*kind), members[::-1].hex(), row)
 
 
+def told_of_compiled(slots, parts, *named):
+    """What a compiled wheel is beside named bytes."""
+    wheel = wheel_of(slots, parts)
+    refused = refusal(size(wheel, MOST))
+    if refused:
+        return refused
+    b, wanted = image(wheel), image_of(*named)
+    if b == wanted:
+        return "the image of %d bytes" % len(b)
+    place = next((at for at, (one, other) in enumerate(zip(b, wanted)) if one != other), min(len(b), len(wanted)))
+    return "%d bytes, other ones from byte %d on" % (len(b), place)
+
+
+def told_of_sums(slots, parts, limit):
+    """The length and the sums of the bytes of a compiled wheel."""
+    wheel = wheel_of(slots, parts)
+    refused = refusal(size(wheel, int(limit)))
+    if refused:
+        return refused
+    b = image(wheel)
+    return "%d bytes, sums %d %d" % (len(b), sum(b), sum(at * byte for at, byte in enumerate(b, 1)) % 2**64)
+
+
+def refusal(told):
+    """Why there is no image, by what is told of sizes, or None."""
+    if told == "limit: places":
+        return "TooManyPlaces"
+    return told.replace("limit: states", "TooLarge") if told.startswith("limit") else None
+
+
 def told_of(kind, fields):
     """What is told of a row, or None where these computations tell nothing of its kind."""
     if kind == "size":
         return size(wheel_of(*fields[:2]), int(fields[2]))
+    if kind in ("compile", "sums"):
+        return {"compile": told_of_compiled, "sums": told_of_sums}[kind](*fields)
     if kind in ("verify", "prefixes", "fields"):
         return {"verify": told_of_bytes, "prefixes": told_of_prefixes, "fields": told_of_fields}[kind](image_of(*fields))
     if kind in ("flips", "walk", "state"):

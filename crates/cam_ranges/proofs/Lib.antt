@@ -9,3 +9,5 @@ pub mod PlacesInGaps
 pub mod SmallPlaces
 pub mod GatheredPlaces
 pub mod FewPlaces
+pub mod OrderedLists
+pub mod SomePlace

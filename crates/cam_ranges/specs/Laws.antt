@@ -1,4 +1,4 @@
--- Laws of walks over places, and of the motion that a start place names.
+-- Laws of places, of walks over them, and of the motion that a start place names.
 use Rattle.std.specs.Prelude.{◌≡◌, List, reverse, ℤ, ◌↔◌}
 use Rattle.wheel_types.specs.declared.channel.Channel.{Channel}
 use Rattle.wheel_types.specs.declared.place.Place.{Place}
@@ -9,7 +9,12 @@ use Rattle.wheel_types.specs.Motions.{Motion, IsPermitted, Gives, indices_after}
 use Rattle.wheel_types.specs.Verdicts.{Leads, IsRising, place_of}
 use Rattle.wheel_types.specs.Steps.{indices_of}
 use Rattle.wheel_types.specs.Named.{IsNamedMotion}
+use Rattle.cam_ranges.specs.Places.{IsPlace}
 use Rattle.cam_ranges.specs.Walks.{walk_of, AllStand, MakePasses, AreLeastAngles}
+
+-- each wheel has a place
+abbrev pub WheelsHavePlaces : Type 0
+WheelsHavePlaces = (w : WheelParts) → IsWheel w → (p : Place) × IsPlace w p
 
 -- what angles have to say of the walk from a place along these channels
 pub record AnglesOfWalk (w : WheelParts) (start : Place) (channels : List Channel) : Type 0 where

@@ -1,5 +1,10 @@
-//! Laws of walks over places, and of the motion that a start place names.
-ghost use Rattle.cam_ranges.specs.Laws.{AngleLaw, OneNamedMotion};
+//! Laws of places, of walks over them, and of the motion that a start place names.
+ghost use Rattle.cam_ranges.specs.Laws.{AngleLaw, OneNamedMotion, WheelsHavePlaces};
+
+/// Each wheel has a place.
+pub fn wheels_have_places()
+    ensures { WheelsHavePlaces }
+{}
 
 /// Angles that never fall and pass channels in turn, as a motion does, exist exactly where every place of the walk
 /// stands. The least angles of these places are then such angles.

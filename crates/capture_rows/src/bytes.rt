@@ -35,11 +35,38 @@ fn push_text(bytes: &mut Vec<u8>, text: &str) -> Result<(), AllocError> {
     Ok(())
 }
 
-/// The bytes of texts, joined.
+/// Adds copies of a text, where `%` stands for the copy's number, from 0.
+fn push_copies(
+    alloc: Global,
+    bytes: &mut Vec<u8>,
+    count: u64,
+    text: &str,
+) -> Result<(), AllocError> {
+    for number in 0..count {
+        let number = format!(in alloc; "{number}")?;
+        let copy = text.replace(alloc, '%', &number)?;
+        push_text(bytes, &copy)?;
+    }
+    Ok(())
+}
+
+/// How many copies of which text a text asks for, as `9 × TEXT`.
+fn copies_in(text: &str) -> Option<(u64, &str)> {
+    let (count, copied) = text.split_once(" × ")?;
+    match count.parse::<u64>() {
+        Ok(count) => Some((count, copied)),
+        Err(_) => None,
+    }
+}
+
+/// The bytes of texts and of copies of texts, joined.
 pub fn bytes_of(alloc: Global, texts: &[String]) -> Result<Vec<u8>, AllocError> {
     let mut bytes = Vec::new(alloc);
     for text in texts {
-        push_text(&mut bytes, text)?;
+        match copies_in(text) {
+            Some((count, copied)) => push_copies(alloc, &mut bytes, count, copied)?,
+            None => push_text(&mut bytes, text)?,
+        }
     }
     Ok(bytes)
 }

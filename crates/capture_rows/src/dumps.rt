@@ -8,7 +8,7 @@ use std::alloc::{AllocError, Global};
 use vcd_reader::{FeedFault, VcdReader};
 
 /// The text of an answer.
-fn text_of(alloc: Global, end: Result<(), FeedFault>) -> Result<String, AllocError> {
+pub fn text_of(alloc: Global, end: Result<(), FeedFault>) -> Result<String, AllocError> {
     match end {
         Ok(()) => String::from_str(alloc, "Clean"),
         Err(FeedFault::Refused(fault)) => format!(in alloc; "{fault:?}"),

@@ -12,10 +12,13 @@
 //! - `again | NAMES | WATCH | PARTS`: a dump to which more is fed after its end: the answers to it and to its end, each with the instants
 //!   that wait then, and whether more of both is answered the same.
 //! - `levels | WATCH | STAMPS`: levels that are given at stamps, each as a letter of its channel and 0 or 1.
-//! - `header | SECTIONS`: sections of a dump's header without their ends: what they declare, or what does not fit.
+//! - `header | NAMES | WATCH | SECTIONS`: sections of a dump's header without their ends: what is kept of them, or what does not fit.
+//! - `long csv | NAMES | WATCH | PARTS` and `long vcd | NAMES | WATCH | PARTS`: a long file in CSV, and a long dump that is fed 65,536
+//!   bytes at a time: the number of instants, the last of them, and how it ends.
 //!
 //! Names are those of the crank, the cams and the time, with a comma between two. A watch has a sign for the crank and each cam: `+` and
-//! `-` for rising and falling edges, `*` for both, `.` for none. Parts are joined, and `\xff` in them stands for the byte 255.
+//! `-` for rising and falling edges, `*` for both, `.` for none. Parts are joined, and `\xff` in them stands for the byte 255. A part
+//! `9 × TEXT` is nine copies of the text, in which `%` stands for the copy's number, from 0.
 #![tactic(auto)]
 
 mod again;
@@ -24,6 +27,7 @@ mod cuts;
 mod dumps;
 mod edges;
 mod levels;
+mod long;
 mod pieces;
 mod sections;
 mod sheets;
@@ -34,6 +38,7 @@ use bytes::bytes_of;
 use cuts::{told_of_cuts, told_of_fronts};
 use dumps::{told_by_bytes, told_of_parts};
 use levels::told_of_levels;
+use long::{told_of_long_dump, told_of_long_sheet};
 use rows::{Tells, check};
 use sections::told_of_sections;
 use sheets::{told_of_sheet, told_of_time};
@@ -49,9 +54,6 @@ impl Tells for Captures {
     fn told(&self, alloc: Global, fields: &[String]) -> Result<Option<String>, AllocError> {
         match fields {
             [kind, text] if kind.as_str() == "time" => Ok(Some(told_of_time(alloc, text)?)),
-            [kind, sections @ ..] if kind.as_str() == "header" => {
-                Ok(Some(told_of_sections(alloc, sections)?))
-            }
             [kind, watch, stamps @ ..] if kind.as_str() == "levels" => {
                 let Some(watch) = watch_of(watch.as_bytes()) else {
                     return Ok(None);
@@ -76,6 +78,9 @@ fn told_of_capture(
     watched: &Watched,
     parts: &[String],
 ) -> Result<Option<String>, AllocError> {
+    if kind == "header" {
+        return Ok(Some(told_of_sections(alloc, watched, parts)?));
+    }
     let whole = bytes_of(alloc, parts)?;
     let told = match kind {
         "csv" => told_of_sheet(alloc, watched, &whole)?,
@@ -84,6 +89,8 @@ fn told_of_capture(
         "cuts" => told_of_cuts(alloc, watched, &whole)?,
         "fronts" => told_of_fronts(alloc, watched, &whole)?,
         "again" => told_again(alloc, watched, &whole)?,
+        "long csv" => told_of_long_sheet(alloc, watched, &whole)?,
+        "long vcd" => told_of_long_dump(alloc, watched, &whole)?,
         _ => return Ok(None),
     };
     Ok(Some(told))

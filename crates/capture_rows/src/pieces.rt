@@ -6,6 +6,10 @@ use crate::edges::push_instant;
 use crate::watched::Watched;
 use std::alloc::{AllocError, Global};
 use vcd_reader::{FeedFault, VcdReader};
+use wheel_types::Instant;
+
+// As many bytes as a file is read by.
+const PIECE: usize = 1 << 16;
 
 /// A reader of what is watched.
 pub fn reader_of(alloc: Global, watched: &Watched) -> Result<VcdReader, AllocError>
@@ -39,4 +43,29 @@ pub fn feed_bytes(reader: &mut VcdReader, bytes: &[u8]) -> Result<(), FeedFault>
         fed = reader.feed(&bytes[at..at + 1]);
     }
     fed
+}
+
+/// Feeds the bytes 65,536 at a time, and gives the last answer.
+pub fn feed_pieces(reader: &mut VcdReader, bytes: &[u8]) -> Result<(), FeedFault>
+    requires { bytes_read reader.old + length bytes.now < 2 ^ 64 }
+{
+    let mut rest = bytes;
+    'pieces: while rest.len() > PIECE {
+        let (piece, more) = rest.split_at(PIECE);
+        let _ = reader.feed(piece);
+        rest = more;
+    }
+    reader.feed(rest)
+}
+
+/// Takes the instants that wait, so many at most, and gives their number and the last of them.
+pub fn count_taken(reader: &mut VcdReader, most: usize) -> (usize, Option<Instant>) {
+    let mut last = None;
+    for count in 0..most {
+        match reader.take() {
+            Some(instant) => last = Some(instant),
+            None => return (count, last),
+        }
+    }
+    (most, last)
 }

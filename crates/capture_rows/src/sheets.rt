@@ -14,7 +14,7 @@ const RISING: Watch = Watch {
 };
 
 /// The capture of a file in CSV.
-fn capture_of(alloc: Global, watched: &Watched, file: &[u8]) -> Result<Capture, AllocError> {
+pub fn capture_of(alloc: Global, watched: &Watched, file: &[u8]) -> Result<Capture, AllocError> {
     match read_csv(alloc, file, &watched.names, watched.watch) {
         Ok(capture) => Ok(capture),
         Err(_) => Err(AllocError),

@@ -1,5 +1,5 @@
 -- Legal steps of the first places of a list.
-use Rattle.std.proofs.Common.{◌≡◌, ℕ, ◌+◌, ◌<◌, ◌⊎◌, inl, inr, List, [], ◌∷◌, length, take, get_or, refl, sym, subst, arith}
+use Rattle.std.proofs.Common.{◌≡◌, ℕ, ◌+◌, ◌<◌, ◌⊎◌, inl, inr, List, [], length, take, get_or, sym, subst, arith}
 use Rattle.std.proofs.lemmas.List.Elements.{Contains-push_cases, Contains-get_or}
 use Rattle.std.specs.Prelude.{Contains, Option}
 use Rattle.wheel_types.specs.declared.place.Place.{Place}
@@ -7,9 +7,8 @@ use Rattle.wheel_types.specs.declared.instant.Instant.{Instant}
 use Rattle.wheel_types.specs.declared.parts.WheelParts.{WheelParts}
 use Rattle.wheel_types.specs.Steps.{IsLegalStep}
 use Rattle.plain_motion.proofs.LeastPlaces.{take_one}
-use Rattle.wheel_types.specs.Verdicts.{Leads, EndsAt, IsBefore}
+use Rattle.wheel_types.specs.Verdicts.{IsBefore}
 use Rattle.plain_motion.specs.Ends.{IsOther}
-use Rattle.plain_motion.specs.EndPlaces.{AreEndsOf}
 use Rattle.certificate_checker.specs.Checking.{StepsTo, HoldsAll, HasStep}
 
 no_step : (w : WheelParts) (window : List Instant) (i : Instant) (q : Place) → StepsTo w window [] i q → ⊥
@@ -46,19 +45,6 @@ none_more w window from k d i h none here s = by_cases (last_step w window from 
 -- a place of the list
 pub step_there : (w : WheelParts) (window : List Instant) (from : List Place) (k : ℕ) (d : Place) (i : Instant) (q : Place) → k < length from → IsLegalStep w window (get_or from k d) i q → StepsTo w window from i q
 step_there w window from k d i q h s = (get_or from k d, (Contains-get_or from k d h, s))
-
--- the ends of a window that has an instant
-pub ends_have : (w : WheelParts) (window : List Instant) (ends : List Place) (e : Place) → (window ≡ [] → ⊥) → AreEndsOf w window ends → EndsAt w window e → Contains ends e
-ends_have w [] ends e some are h = absurd (some refl)
-ends_have w (i ∷ before) ends e some are h = (are.exact e).1 h
-
-pub no_walk_more : (w : WheelParts) (window : List Instant) (ends : List Place) (k : ℕ) (d start : Place) → k < length ends → ((e : Place) → Contains (take k ends) e → Leads w window start e → ⊥) → (Leads w window start (get_or ends k d) → ⊥)
-    → (e : Place) → Contains (take (k + 1) ends) e → Leads w window start e → ⊥
-no_walk_more w window ends k d start h none here e c l = by_cases (Contains-push_cases (take k ends) (get_or ends k d) e (subst (λ m. Contains m e) (take_one ends k d h) c))
-  where
-    by_cases : Contains (take k ends) e ⊎ (get_or ends k d ≡ e) → ⊥
-    by_cases (inl n) = none e n l
-    by_cases (inr f) = here (subst (Leads w window start) (sym f) l)
 
 pub least_more : (cover : List Place) (k : ℕ) (d p : Place) (but : Option ℕ) → k < length cover → ((q : Place) → Contains (take k cover) q → IsOther but q.j → IsBefore p q) → (IsOther but (get_or cover k d).j → IsBefore p (get_or cover k d))
     → (q : Place) → Contains (take (k + 1) cover) q → IsOther but q.j → IsBefore p q

@@ -1,10 +1,10 @@
 -- Fronts of lists, item by item.
-use Rattle.std.proofs.Common.{◌≡◌, ℕ, zero, suc, ◌+◌, ◌<◌, ◌≤◌, ◌⊎◌, inl, inr, ◌<ℤ◌, List, [], ◌∷◌, length, take, take_all, ◌-◌, get_or, ⊎_elim, refl, sym, ◌∙◌, subst, arith}
-use Rattle.std.proofs.lemmas.Int.{ints}
+use Rattle.std.proofs.Common.{◌≡◌, ℕ, zero, suc, ◌+◌, ◌<◌, ◌≤◌, ◌⊎◌, inl, inr, List, [], ◌∷◌, length, take, take_all, ◌-◌, get_or, ⊎_elim, refl, sym, subst, arith}
 use Rattle.std.proofs.lemmas.List.Elements.{All-append, All-cons, Contains-push_cases}
 use Rattle.std.specs.Prelude.{All, Contains}
 use Rattle.wheel_types.specs.declared.place.Place.{Place}
 use Rattle.cam_ranges.specs.Places.{IsLess, IsAscending}
+use Rattle.cam_ranges.proofs.OrderedLists.{less_through}
 use Rattle.plain_motion.proofs.LeastPlaces.{take_one}
 
 none_all : {X : Type 0} (P : X → Type 0) → All P []
@@ -23,24 +23,6 @@ not_more xs k d x h none here c = by_cases (Contains-push_cases (take k xs) (get
 -- what holds of all, holds of the front
 pub all_done : {X : Type 0} (P : X → Type 0) (xs : List X) (k : ℕ) → length xs ≤ k → All P (take k xs) → All P xs
 all_done P xs k h all = subst (All P) (take_all k xs h) all
-
--- a place that stands before itself is none
-pub less_itself : (p : Place) → IsLess p p → ⊥
-less_itself p (inl h) = omega (arith, h)
-less_itself p (inr (e, inl h)) = omega (arith, ints, h)
-less_itself p (inr (e, inr (f, h))) = omega (arith, ints, h)
-
-pub less_through : (a b c : Place) → IsLess a b → IsLess b c → IsLess a c
-less_through a b c (inl h) (inl k) = inl (omega (arith, h, k))
-less_through a b c (inl h) (inr k) = let e : b.j ≡ c.j = k.0 in inl (omega (arith, h, e))
-less_through a b c (inr h) (inl k) = let e : a.j ≡ b.j = h.0 in inl (omega (arith, k, e))
-less_through a b c (inr (e, h)) (inr (f, k)) = inr (e ∙ f, cams h k)
-  where
-    cams : (a.n1 <ℤ b.n1) ⊎ ((a.n1 ≡ b.n1) × (a.n2 <ℤ b.n2)) → (b.n1 <ℤ c.n1) ⊎ ((b.n1 ≡ c.n1) × (b.n2 <ℤ c.n2)) → (a.n1 <ℤ c.n1) ⊎ ((a.n1 ≡ c.n1) × (a.n2 <ℤ c.n2))
-    cams (inl h) (inl k) = inl (omega (arith, ints, h, k))
-    cams (inl h) (inr (f, k)) = inl (omega (arith, ints, h, f))
-    cams (inr (e, h)) (inl k) = inl (omega (arith, ints, k, e))
-    cams (inr (e, h)) (inr (f, k)) = inr (e ∙ f, omega (arith, ints, h, k))
 
 -- each of the places below n stands before the next
 abbrev pub RiseBelow : List Place → ℕ → Type 0

@@ -1,6 +1,5 @@
 pub mod Lists
 pub mod Fronts
-pub mod Halves
 pub mod FirstSteps
 pub mod RulesBelow
 pub mod InstantRules

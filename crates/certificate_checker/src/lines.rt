@@ -2,11 +2,12 @@
 ghost use Rattle.std.specs.Prelude.{◌≡◌, ◌≢◌, ◌↔◌, ℕ, IsTrue, All, Contains};
 ghost use Rattle.wheel_types.specs.Verdicts.{IsBefore, IsLeast};
 ghost use Rattle.wheel_types.specs.declared.place.Place.{Place as Spot};
-ghost use Rattle.cam_ranges.specs.Places.{IsLess, IsAscending};
+ghost use Rattle.cam_ranges.specs.Places.{IsAscending};
 ghost use Rattle.edge_angles.specs.EdgeTables.{AreEdgesOf};
 ghost use Rattle.certificate_checker.specs.Rules.{HasReportLine, IsOfKind, HasCertLine, HasCover, HoldsPosition};
 ghost use Rattle.certificate_checker.specs.Checking.{ArePlacesOf};
 
+use cam_ranges::is_less;
 use edge_angles::Edges;
 use pair_certificate::{CertKind, CertLine};
 use wheel_types::{Instant, Place, Report, Verdict, Wheel};
@@ -37,19 +38,6 @@ pub fn has_cert_line(index: u64, report: &Report, line: &CertLine) -> bool
     ensures { IsTrue result ↔ HasCertLine index report.now line.now }
 {
     line.index == index && is_of_kind(report.verdict, line.kind)
-}
-
-/// Whether the one place stands before the other, another one.
-pub fn is_less(place: Place, other: Place) -> bool
-    ensures { IsTrue result ↔ IsLess place other }
-{
-    if place.j != other.j {
-        return place.j < other.j;
-    }
-    if place.n1 != other.n1 {
-        return place.n1 < other.n1;
-    }
-    place.n2 < other.n2
 }
 
 /// Whether one place is another.

@@ -1,8 +1,6 @@
 //! Legal steps of places, and walks, by a set that is stepped along.
-ghost use Rattle.std.specs.Prelude.{◌≡◌, ◌≢◌, ◌<◌, ◌↔◌, List as Items, [], ◌∷◌, IsTrue, All, Contains, IfSome};
-ghost use Rattle.std.specs.Prelude.{MatchOption, ◌<ℤ◌};
-ghost use Rattle.wheel_types.specs.Verdicts.{Leads, IsBefore};
-ghost use Rattle.wheel_types.specs.Edges.{edge_count};
+ghost use Rattle.std.specs.Prelude.{◌↔◌, ◌<ℤ◌, List as Items, IsTrue, All, Contains, IfSome};
+ghost use Rattle.wheel_types.specs.Verdicts.{IsBefore};
 ghost use Rattle.plain_motion.specs.Ends.{IsOther};
 ghost use Rattle.wheel_types.specs.declared.place.Place.{Place as Spot};
 ghost use Rattle.wheel_types.specs.declared.instant.Instant.{Instant as Moment};
@@ -13,9 +11,10 @@ ghost use Rattle.plain_motion.specs.Sets.{StandsFor, wheel_of, last_of};
 ghost use Rattle.legal_steps.specs.Times.{IsSmall};
 ghost use Rattle.certificate_checker.specs.Checking.{HoldsAll, HasStep, IsLeastNotAt};
 
-use crate::lines::{has_place, is_less};
+use crate::lines::has_place;
+use cam_ranges::is_less;
 use plain_motion::PlainSet;
-use wheel_types::{Channel, Instant, Place};
+use wheel_types::{Instant, Place};
 
 /// Whether the cover, which ascends, holds every legal step of these places.
 pub fn holds_all(set: &PlainSet, from: &[Place], instant: &Instant, cover: &[Place]) -> bool
@@ -77,21 +76,6 @@ pub fn has_step(set: &PlainSet, from: &[Place], instant: &Instant) -> bool
         }
     }
     false
-}
-
-/// Where the motions end that began at a place and give the instants of the set's window, if there are any.
-pub fn walk_end(set: &PlainSet, start: Place) -> Option<Place>
-    requires { 0 < edge_count (wheel_of set.now) Channel.Crank }
-    ensures { (past : Items Moment) (verdicts : Items Judgement) (s : StandsFor set.now past verdicts) → s.kept.window ≢ []
-        → MatchOption result ((e : Spot) → ¬ Leads (wheel_of set.now) s.kept.window start e)
-        (λ e. Leads (wheel_of set.now) s.kept.window start e) }
-{
-    for end in set.ends() {
-        if set.start_of(*end) == start {
-            return Some(*end);
-        }
-    }
-    None
 }
 
 /// Whether another place leaves a place the least of those that are not at this position.

@@ -13,14 +13,13 @@ ghost use Rattle.certificate_checker.specs.Checking.{Tells, IsBasisOf};
 
 use crate::basis::Basis;
 use crate::lines::is_same;
-use crate::steps::{has_step, holds_all, is_least, walk_end};
+use crate::steps::{has_step, holds_all, is_least};
 use pair_certificate::CertKind;
 use plain_motion::PlainSet;
 use wheel_types::{Channel, Instant, Place, Verdict, Wheel};
 
 /// Where the walk from a place ends, by the set that took the instant with this verdict.
 fn end_of(set: &PlainSet, verdict: Verdict, start: Place) -> Option<Place>
-    requires { 0 < edge_count (wheel_of set.now) Channel.Crank }
     ensures { (past : Items Moment) (verdicts : Items Judgement) (s : StandsFor set.now past verdicts)
         (i : Moment) (before : Items Moment) → Tells (wheel_of set.now) (i ∷ before) verdict s.kept.window
         → MatchOption result ((e : Spot) → ¬ IsWalk (wheel_of set.now) (i ∷ before) start e)
@@ -28,13 +27,12 @@ fn end_of(set: &PlainSet, verdict: Verdict, start: Place) -> Option<Place>
 {
     match verdict {
         Verdict::Lost => None,
-        _ => walk_end(set, start),
+        _ => set.end_of(start),
     }
 }
 
 /// Whether a place begins a walk.
 fn is_start(set: &PlainSet, verdict: Verdict, start: Place) -> bool
-    requires { 0 < edge_count (wheel_of set.now) Channel.Crank }
     ensures { (past : Items Moment) (verdicts : Items Judgement) (s : StandsFor set.now past verdicts)
         (i : Moment) (before : Items Moment) → Tells (wheel_of set.now) (i ∷ before) verdict s.kept.window
         → IsTrue result ↔ ((e : Spot) × IsWalk (wheel_of set.now) (i ∷ before) start e) }
@@ -47,7 +45,6 @@ fn is_start(set: &PlainSet, verdict: Verdict, start: Place) -> bool
 
 /// Whether the places that a line names begin walks.
 pub fn holds_starts(set: &PlainSet, verdict: Verdict, kind: CertKind) -> bool
-    requires { 0 < edge_count (wheel_of set.now) Channel.Crank }
     ensures { (past : Items Moment) (verdicts : Items Judgement) (s : StandsFor set.now past verdicts)
         (i : Moment) (before : Items Moment) → Tells (wheel_of set.now) (i ∷ before) verdict s.kept.window
         → IsTrue result ↔ HoldsStarts (wheel_of set.now) (i ∷ before) kind }

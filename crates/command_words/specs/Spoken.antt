@@ -1,5 +1,6 @@
--- What the words of a replay give, past the command.
+-- What words give, past the command.
 use Rattle.std.specs.Prelude.{ℕ, List, [], ◌∷◌, Some, None, option_map, option_and_then, if◌then◌else◌}
+use Rattle.std.specs.Option.{is_none}
 use Rattle.std.specs.declared.option.Option.{Option}
 use Rattle.command_words.specs.declared.options.OptionName.{OptionName}
 use Rattle.command_words.specs.declared.spoken.Spoken.{Spoken as Borrowed}
@@ -8,30 +9,42 @@ use Rattle.command_words.specs.Same.{is_option, is_operand}
 
 -- the operands in order, the options, and the option that still wants its value
 pub record Spoken : Type 0 where
-  pub model : Option (List ℕ)
-  pub capture : Option (List ℕ)
+  pub first : Option (List ℕ)
+  pub second : Option (List ℕ)
+  pub third : Option (List ℕ)
+  pub fourth : Option (List ℕ)
   pub options : Options
   pub wants : Option OptionName
 
 -- before the first word
 abbrev pub silence : Spoken
-silence = record { model = None; capture = None; options = no_options; wants = None }
+silence = record { first = None; second = None; third = None; fourth = None; options = no_options; wants = None }
 
 -- the texts of borrowed words
 abbrev pub spoken_of : Borrowed → Spoken
-spoken_of s = record { model = option_map (λ t. t.now) s.model; capture = option_map (λ t. t.now) s.capture; options = options_of s.options; wants = s.wants }
+spoken_of s = record {
+  first = option_map (λ t. t.now) s.first;
+  second = option_map (λ t. t.now) s.second;
+  third = option_map (λ t. t.now) s.third;
+  fourth = option_map (λ t. t.now) s.fourth;
+  options = options_of s.options;
+  wants = s.wants;
+}
 
--- one more operand, of which there are at most two
-abbrev pub with_operand : Spoken → Option (List ℕ) → Option (List ℕ) → List ℕ → Option Spoken
-with_operand s None capture word = Some (record s { model = Some word })
-with_operand s (Some model) None word = Some (record s { capture = Some word })
-with_operand s (Some model) (Some capture) word = None
+-- one more operand, of which there are at most four
+abbrev pub with_operand : Spoken → List ℕ → Option Spoken
+with_operand s word =
+    if is_none s.first then Some (record s { first = Some word })
+    else if is_none s.second then Some (record s { second = Some word })
+    else if is_none s.third then Some (record s { third = Some word })
+    else if is_none s.fourth then Some (record s { fourth = Some word })
+    else None
 
 -- a word that no option wants: an option's name, or an operand
 abbrev pub with_word : Spoken → List ℕ → Option Spoken
 with_word s word =
     if is_option word then option_map (λ name. record s { wants = Some name }) (option_named word)
-    else if is_operand word then with_operand s s.model s.capture word
+    else if is_operand word then with_operand s word
     else None
 
 -- one more word, whatever it is where an option wants it

@@ -1,4 +1,4 @@
-//! The options of a replay.
+//! The options that name a capture's columns.
 ghost use Rattle.std.specs.Prelude.{◌≡◌};
 ghost use Rattle.std.specs.Option.{option_map};
 ghost use Rattle.command_words.specs.Options.{options_of, no_options, option_named, with_option, once};

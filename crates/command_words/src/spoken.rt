@@ -1,4 +1,4 @@
-//! The words of a replay, past the command.
+//! The operands and options of words, past the command.
 ghost use Rattle.std.specs.Prelude.{◌≡◌, map, string_bytes};
 ghost use Rattle.std.specs.Option.{option_map};
 ghost use Rattle.command_words.specs.Same.{is_option as begins_with_dashes, is_operand as names_something};
@@ -9,8 +9,10 @@ use crate::options::{OptionName, Options, option_name};
 /// What the words give so far: the operands in order, the options, and the option that still wants its value.
 #[derive(Clone, Copy, Debug)]
 pub struct Spoken<'a> {
-    pub model: Option<&'a str>,
-    pub capture: Option<&'a str>,
+    pub first: Option<&'a str>,
+    pub second: Option<&'a str>,
+    pub third: Option<&'a str>,
+    pub fourth: Option<&'a str>,
     pub options: Options<'a>,
     pub wants: Option<OptionName>,
 }
@@ -38,21 +40,23 @@ pub(crate) fn is_operand(word: &str) -> bool
 }
 
 impl<'a> Spoken<'a> {
-    /// One more operand, of which there are at most two.
+    /// One more operand, of which there are at most four.
     fn with_operand(self, word: &'a str) -> Option<Spoken<'a>>
-        ensures { option_map spoken_of result ≡ with_one_more (spoken_of self.entry) (spoken_of self.entry).model (spoken_of self.entry).capture word.now }
+        ensures { option_map spoken_of result ≡ with_one_more (spoken_of self.entry) word.now }
     {
-        match (self.model, self.capture) {
-            (None, _) => Some(Spoken {
-                model: Some(word),
-                ..self
-            }),
-            (Some(_), None) => Some(Spoken {
-                capture: Some(word),
-                ..self
-            }),
-            (Some(_), Some(_)) => None,
+        let mut spoken = self;
+        if self.first.is_none() {
+            spoken.first = Some(word);
+        } else if self.second.is_none() {
+            spoken.second = Some(word);
+        } else if self.third.is_none() {
+            spoken.third = Some(word);
+        } else if self.fourth.is_none() {
+            spoken.fourth = Some(word);
+        } else {
+            return None;
         }
+        Some(spoken)
     }
 
     /// One more word, which no option wants.
@@ -97,8 +101,10 @@ pub fn hear(words: &[String]) -> Option<Spoken<'_>>
     ensures { option_map spoken_of result ≡ after_words silence (map string_bytes words.now) }
 {
     let mut spoken = Spoken {
-        model: None,
-        capture: None,
+        first: None,
+        second: None,
+        third: None,
+        fourth: None,
         options: Options::none(),
         wants: None,
     };

@@ -1,7 +1,7 @@
 //! The words of a command.
 ghost use Rattle.std.specs.Prelude.{◌≡◌, map, string_bytes};
 ghost use Rattle.std.specs.Option.{option_map};
-ghost use Rattle.command_words.specs.Words.{command_of, replay_by, import_by, order_of};
+ghost use Rattle.command_words.specs.Words.{command_of, replay_by, import_by, size_by, check_by, differ, order_of};
 
 use crate::options::Options;
 use crate::spoken::{hear, is_operand};
@@ -15,10 +15,22 @@ pub enum Command<'a> {
         capture: &'a str,
         options: Options<'a>,
     },
+    /// Checks the certificate of one file for the report of another, over a wheel and a capture. The names differ.
+    Check {
+        wheel: &'a str,
+        capture: &'a str,
+        report: &'a str,
+        cert: &'a str,
+        options: Options<'a>,
+    },
     /// Prints the slots of the table that the file of a C source has under a name.
     Import {
         source: &'a str,
         name: &'a str,
+    },
+    /// Tells the sizes of the table of a wheel's file.
+    Size {
+        wheel: &'a str,
     },
 }
 
@@ -30,14 +42,54 @@ fn read_replay(words: &[String]) -> Option<Command<'_>>
         Some(spoken) => spoken,
         None => return None,
     };
-    match (spoken.model, spoken.capture, spoken.wants) {
-        (Some(model), Some(capture), None) => {
+    if spoken.third.is_some() || spoken.wants.is_some() {
+        return None;
+    }
+    match (spoken.first, spoken.second) {
+        (Some(model), Some(capture)) => {
             if model == capture {
                 return None;
             }
             Some(Command::Replay {
                 model,
                 capture,
+                options: spoken.options,
+            })
+        }
+        _ => None,
+    }
+}
+
+/// Whether four words all differ.
+fn all_differ(a: &str, b: &str, c: &str, d: &str) -> bool
+    ensures { result ≡ differ a.now b.now c.now d.now }
+{
+    let first = a != b && a != c && a != d;
+    let rest = b != c && b != d && c != d;
+    first && rest
+}
+
+/// The check that its words give.
+fn read_check(words: &[String]) -> Option<Command<'_>>
+    ensures { option_map order_of result ≡ check_by (map string_bytes words.now) }
+{
+    let spoken = match hear(words) {
+        Some(spoken) => spoken,
+        None => return None,
+    };
+    if spoken.wants.is_some() {
+        return None;
+    }
+    match (spoken.first, spoken.second, spoken.third, spoken.fourth) {
+        (Some(wheel), Some(capture), Some(report), Some(cert)) => {
+            if !all_differ(wheel, capture, report, cert) {
+                return None;
+            }
+            Some(Command::Check {
+                wheel,
+                capture,
+                report,
+                cert,
                 options: spoken.options,
             })
         }
@@ -60,6 +112,21 @@ fn read_import(words: &[String]) -> Option<Command<'_>>
     }
 }
 
+/// The size that its words ask for.
+fn read_size(words: &[String]) -> Option<Command<'_>>
+    ensures { option_map order_of result ≡ size_by (map string_bytes words.now) }
+{
+    let [wheel] = words else {
+        return None;
+    };
+    let wheel = wheel.as_str();
+    if is_operand(wheel) {
+        Some(Command::Size { wheel })
+    } else {
+        None
+    }
+}
+
 /// The command that the words after the program's name give, or nothing where they are none.
 ///
 /// An operand is not empty and does not begin with two dashes. An option may stand anywhere past the command, at most once, and the next
@@ -75,6 +142,10 @@ pub fn read_command(words: &[String]) -> Option<Command<'_>>
         read_replay(operands)
     } else if command == "import" {
         read_import(operands)
+    } else if command == "size" {
+        read_size(operands)
+    } else if command == "check" {
+        read_check(operands)
     } else {
         None
     }

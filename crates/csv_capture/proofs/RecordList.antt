@@ -90,7 +90,7 @@ taken cfg s fields field (c ∷ rest) p e = by (is_end (step cfg s c).1) refl (�
         record { between = t.between; shorter = omega (arith, t.shorter, due-one (step cfg s c).0) }
 
 -- There are no more records than bytes.
-reached-few : (cfg : Config) (s s2 : State) (xs ys : List ℕ) (rows : List (List (List ℕ))) → Reached cfg s xs rows s2 ys → ends_at_end s ≡ false → length rows + length ys ≤ length xs
+pub reached-few : (cfg : Config) (s s2 : State) (xs ys : List ℕ) (rows : List (List (List ℕ))) → Reached cfg s xs rows s2 ys → ends_at_end s ≡ false → length rows + length ys ≤ length xs
 unfolding Reached
 reached-few cfg s s2 xs ys [] h e = omega (arith, ap length h.1)
 reached-few cfg s s2 xs ys (r ∷ rows) h e =

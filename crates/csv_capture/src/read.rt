@@ -1,5 +1,5 @@
 //! The reader of captures in CSV.
-ghost use Rattle.std.specs.Prelude.{◌≡◌, ℕ, IfOk, List as Items, drop, [], ◌∷◌, ◌^◌, false};
+ghost use Rattle.std.specs.Prelude.{◌≡◌, ℕ, IfOk, List as Items, drop, [], ◌∷◌, ◌^◌};
 ghost use Rattle.wheel_types.specs.Verdicts.{IsRising, AreWithin};
 ghost use Rattle.capture_core.specs.Captures.{capture_of};
 ghost use Rattle.csv_capture.specs.Captures.{after_rows, csv_capture, rows_of};
@@ -15,13 +15,20 @@ use capture_core::{Capture, Column, CsvFault, Names, Watch};
 use std::alloc::Global;
 use wheel_types::Memory;
 
-/// The capture of the rows below the header.
-fn read_rows(records: &mut Records<'_>, columns: Columns, rows: Rows) -> Result<Capture, Memory>
-    ensures { IfOk result (λ c. (bytes : Items ℕ) (header : Items (Items ℕ)) (watch : AWatch) → HasRead bytes (header ∷ []) records.old → Keeps watch [] rows
-        → c ≡ capture_of watch (after_rows columns 2 [] (drop 1 (rows_of bytes)))) }
+/// The capture of the rows below the header. There are fewer rows than bytes.
+fn read_rows(
+    bytes: &[u8],
+    records: &mut Records<'_>,
+    columns: Columns,
+    rows: Rows,
+) -> Result<Capture, Memory>
+    requires { (header : Items (Items ℕ)) × HasRead bytes.now (header ∷ []) records.old }
+    ensures { IfOk result (λ c. (header : Items (Items ℕ)) (watch : AWatch) → HasRead bytes.now (header ∷ []) records.old → Keeps watch [] rows
+        → c ≡ capture_of watch (after_rows columns 2 [] (drop 1 (rows_of bytes.now)))) }
 {
     let mut rows = rows;
-    'rows: for number in 2..u64::MAX {
+    let mut number: u64 = 2;
+    'rows: loop {
         let more = records.advance()?;
         if !more {
             let capture = rows.finish()?;
@@ -31,18 +38,20 @@ fn read_rows(records: &mut Records<'_>, columns: Columns, rows: Rows) -> Result<
             Ok(stamp) => rows.take(stamp)?,
             Err(fault) => return Ok(rows.refused(fault)),
         }
+        number += 1;
     }
-    Err(Memory)
 }
 
 /// The capture of all rows, the header first.
 fn read_all(
+    bytes: &[u8],
     records: &mut Records<'_>,
     names: &Names,
     watch: Watch,
     rows: Rows,
 ) -> Result<Capture, Memory>
-    ensures { IfOk result (λ c. (bytes : Items ℕ) → HasRead bytes [] records.old → Keeps watch [] rows → c ≡ csv_capture names.now watch bytes) }
+    requires { HasRead bytes.now [] records.old }
+    ensures { IfOk result (λ c. Keeps watch [] rows → c ≡ csv_capture names.now watch bytes.now) }
 {
     let more = records.advance()?;
     if !more {
@@ -50,7 +59,7 @@ fn read_all(
         return Ok(rows.refused(CsvFault::NoColumn { column }));
     }
     match Columns::find(records.row(), names, watch) {
-        Ok(columns) => read_rows(records, columns, rows),
+        Ok(columns) => read_rows(bytes, records, columns, rows),
         Err(fault) => Ok(rows.refused(fault)),
     }
 }
@@ -69,5 +78,5 @@ pub fn read_csv(alloc: Global, bytes: &[u8], names: &Names, watch: Watch) -> Res
     ensures within { IfOk result (λ c. AreWithin (10 ^ 24) c.instants) }
 {
     let mut records = Records::new(alloc, bytes);
-    read_all(&mut records, names, watch, Rows::new(alloc, watch))
+    read_all(bytes, &mut records, names, watch, Rows::new(alloc, watch))
 }

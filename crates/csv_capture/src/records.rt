@@ -1,8 +1,9 @@
 //! The rows of a file in CSV, read one after the other into one record.
-ghost use Rattle.std.specs.Prelude.{◌≡◌};
-ghost use Rattle.csv_capture.specs.RecordsOf.{StartsAt};
+ghost use Rattle.std.specs.Prelude.{◌≡◌, ℕ, List as Items, IfErr, IfOk};
+ghost use Rattle.csv.specs.Records.{fields_of};
+ghost use Rattle.csv_capture.specs.RecordsOf.{GoesOn, OnlyStops, Stands, StartsAt};
 
-use csv::{ByteRecord, Reader, ReaderBuilder};
+use csv::{ByteRecord, Error, Reader, ReaderBuilder};
 use std::alloc::Global;
 use wheel_types::Memory;
 
@@ -21,6 +22,14 @@ fn row_reader(alloc: Global, bytes: &[u8]) -> Reader<&[u8]>
         .has_headers(false)
         .flexible(true)
         .from_reader(alloc, bytes)
+}
+
+/// Reads the next row, if there is one. Its errors are want of memory and the source's own, and bytes in memory have none.
+fn read_row(reader: &mut Reader<&[u8]>, row: &mut ByteRecord) -> Result<bool, Error>
+    ensures reads { IfOk result (λ found. (bytes : Items ℕ) (rows : Items (Items (Items ℕ))) → Stands bytes rows reader.old → GoesOn bytes rows (fields_of row.new) reader.new found) }
+    ensures only { IfErr result (λ e. OnlyStops reader.old e) }
+{
+    reader.read_byte_record(row)
 }
 
 impl<'a> Records<'a> {
@@ -42,10 +51,10 @@ impl<'a> Records<'a> {
     pub fn advance(&mut self) -> Result<bool, Memory>
         ensures { IfOk result (λ found. (bytes : List ℕ) (rows : List (List (List ℕ))) → HasRead bytes rows self.old → ReadsOn bytes rows self.new found) }
     {
-        let Ok(found) = self.reader.read_byte_record(&mut self.row) else {
-            return Err(Memory);
-        };
-        Ok(found)
+        match read_row(&mut self.reader, &mut self.row) {
+            Ok(found) => Ok(found),
+            Err(_) => Err(Memory),
+        }
     }
 
     /// The row that was read last.

@@ -11,3 +11,4 @@ pub mod GapSizes
 pub mod Kept
 pub mod TimesKept
 pub mod RatiosKept
+pub mod EachClass

@@ -6,7 +6,9 @@
 //! `fields | IMAGE` tells what the image has in all: its counts; the slots of its crank edges; how many edges of the cams are kept; its
 //! places; its cuts; the parts of its wheel. `state | NUMBER | IMAGE` tells of a state its phase, kind, members and the entries of its
 //! row that are not 0, each after its column. `walk | INSTANTS | IMAGE` tells of each instant the verdict, the state after it, and how
-//! many entries were read.
+//! many entries were read. `compile | SLOTS | PARTS | IMAGE` tells whether a wheel is compiled to these very bytes, and
+//! `sums | SLOTS | PARTS | LIMIT` of the bytes that it is compiled to within a limit on its states their number, their sum, and the sum
+//! of each one times its place and one; both tell why there are none. Slots and parts are those of the program wheel_rows.
 //!
 //! An image is bytes in hexadecimal, in which `3*00` is `000000` and blanks say nothing. It may be followed by changes, as in
 //! `verify | IMAGE | first=100 and=00 8=6500`: its first 100 bytes alone, then a byte 0 at the end, and then two other bytes from
@@ -18,6 +20,7 @@ mod faults;
 mod fields;
 mod states;
 mod walks;
+mod wheels;
 
 use bytes::image_of;
 use faults::{text_of_fault, told_of_flips, told_of_prefixes};
@@ -28,6 +31,7 @@ use states::told_of_state;
 use std::alloc::{AllocError, Global};
 use std::io;
 use walks::told_of_walk;
+use wheels::{told_of_compiled, told_of_sums};
 
 /// What is told of a row, or `None` where it is none.
 type Told = Result<Option<String>, AllocError>;
@@ -76,6 +80,10 @@ impl Tells for Images {
             (kind @ ("verify" | "prefixes" | "fields"), image) => {
                 told_of_image(alloc, kind, "", image)
             }
+            ("compile", [slots, parts, image @ ..]) => {
+                told_of_compiled(alloc, slots, parts, image)
+            }
+            ("sums", [slots, parts, limit]) => told_of_sums(alloc, slots, parts, limit),
             (kind, [asked, image @ ..]) => told_of_image(alloc, kind, asked, image),
             _ => Ok(None),
         }

@@ -14,12 +14,12 @@ use Rattle.wheel_types.proofs.Places.{leads_after_step}
 use Rattle.wheel_types.proofs.BothWays.{step_leads}
 use Rattle.wheel_types.proofs.Standing.{ends_stand, place_of-indices}
 use Rattle.wheel_types.proofs.StartsAndEnds.{start_determined}
-use Rattle.cam_ranges.specs.Places.{IsPlace}
+use Rattle.cam_ranges.specs.Places.{IsPlace, IsAscending}
 use Rattle.plain_motion.specs.declared.window.Walk.{Walk}
 use Rattle.plain_motion.specs.declared.window.Window.{Window}
 use Rattle.legal_steps.specs.declared.times.CrankTimes.TheVariants.{Unseen}
 use Rattle.legal_steps.specs.Times.{times_of}
-use Rattle.plain_motion.specs.Ends.{Keeps, AreWalksOf, GoesOnTo}
+use Rattle.plain_motion.specs.Ends.{Keeps, AreAllPlaces, AreWalksOf, GoesOnTo, starts_of}
 use Rattle.plain_motion.proofs.Images.{AreImages}
 use Rattle.legal_steps.proofs.TimedSteps.{timed_is_legal, legal_is_timed}
 
@@ -63,8 +63,14 @@ walks_of_none w places walks some all images a e = (
 )
 
 -- before its first instant
-pub keeps_none : (w : WheelParts) (s : Window) (places : List Place) → 0 < edge_count w Crank → ((p : Place) → Contains places p ↔ IsPlace w p) → AreImages (λ p v. v ≡ stays_at p) places s.walks → s.begun ≡ false → s.times ≡ Unseen → Keeps w s []
-keeps_none w s places some all images b t = record { walks = walks_of_none w places s.walks some all images; begun = b; times = ap times_of t }
+pub keeps_none : (w : WheelParts) (s : Window) (places : List Place) → 0 < edge_count w Crank → AreAllPlaces w places → AreImages (λ p v. v ≡ stays_at p) places s.walks → starts_of s.walks ≡ places
+    → s.begun ≡ false → s.times ≡ Unseen → Keeps w s []
+keeps_none w s places some all images starts b t = record {
+  walks = walks_of_none w places s.walks some all.exact images;
+  ascend = subst IsAscending (sym starts) all.ascend;
+  begun = b;
+  times = ap times_of t;
+}
 
 -- the walks after one more instant
 walks_more : (w : WheelParts) (s : Window) (walks : List Walk) (i : Instant) (past : List Instant) → 0 < edge_count w Crank → AllEarlier i.time past → Keeps w s past → AreImages (GoesOnTo w (times_of s.times) i) s.walks walks → AreWalksOf w (i ∷ past) walks
@@ -96,5 +102,11 @@ pub times_same : (s : Window) (us : List ℤ) (i : Instant) (past : List Instant
 times_same s us i past e t k = t ∙ k ∙ ap (λ o. take 2 (time_if o i.time (crank_times past))) (sym e)
 
 -- the window with one more instant
-pub keeps_more : (w : WheelParts) (s next : Window) (i : Instant) (past : List Instant) → 0 < edge_count w Crank → AreImages (GoesOnTo w (times_of s.times) i) s.walks next.walks → next.begun ≡ true → times_of next.times ≡ take 2 (crank_times (i ∷ past)) → AllEarlier i.time past → Keeps w s past → Keeps w next (i ∷ past)
-keeps_more w s next i past some steps b t early k = record { walks = walks_more w s next.walks i past some early k steps; begun = b; times = t }
+pub keeps_more : (w : WheelParts) (s next : Window) (i : Instant) (past : List Instant) → 0 < edge_count w Crank → AreImages (GoesOnTo w (times_of s.times) i) s.walks next.walks
+    → (IsAscending (starts_of s.walks) → IsAscending (starts_of next.walks)) → next.begun ≡ true → times_of next.times ≡ take 2 (crank_times (i ∷ past)) → AllEarlier i.time past → Keeps w s past → Keeps w next (i ∷ past)
+keeps_more w s next i past some steps ascend b t early k = record {
+  walks = walks_more w s next.walks i past some early k steps;
+  ascend = ascend k.ascend;
+  begun = b;
+  times = t;
+}

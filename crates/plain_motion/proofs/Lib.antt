@@ -2,6 +2,7 @@ pub mod TestedPlaces
 pub mod WalkSteps
 pub mod Images
 pub mod LeastPlaces
+pub mod AscendingStarts
 pub mod KeptWindows
 pub mod EndLists
 pub mod InOrderEnds

@@ -1,11 +1,11 @@
 -- Places of a wheel, by a test.
 use Rattle.std.proofs.Common.{◌≡◌, List, sym, subst}
-use Rattle.std.specs.Prelude.{All}
+use Rattle.std.specs.Prelude.{All, Contains, ◌↔◌}
 use Rattle.wheel_types.specs.declared.place.Place.{Place}
 use Rattle.wheel_types.specs.declared.parts.WheelParts.{WheelParts}
 use Rattle.wheel_types.specs.Steps.{indices_of}
 use Rattle.wheel_types.proofs.Tests.{standing_tested}
-use Rattle.cam_ranges.specs.Places.{IsPlace}
+use Rattle.cam_ranges.specs.Places.{IsPlace, IsAscending}
 use Rattle.plain_motion.specs.Ends.{IsTestedPlace, AreAllPlaces}
 use Rattle.plain_motion.proofs.Images.{all_from_contains}
 
@@ -15,9 +15,13 @@ by_test w p h = record { edge = h.edge; stands = (standing_tested w (indices_of 
 pub to_test : (w : WheelParts) (p : Place) → IsPlace w p → IsTestedPlace w p
 to_test w p h = record { edge = h.edge; standing = (standing_tested w (indices_of p)).1 h.stands }
 
+-- an ascending list of all places
+pub all_found : (w : WheelParts) (places : List Place) → IsAscending places → ((p : Place) → Contains places p ↔ IsPlace w p) → AreAllPlaces w places
+all_found w places ascend all = record { ascend = ascend; exact = all }
+
 -- the same places of the same wheel
 pub all_are : (w v : WheelParts) (xs ys : List Place) → ys ≡ xs → v ≡ w → AreAllPlaces w xs → AreAllPlaces v ys
 all_are w v xs ys e f h = subst (λ u. AreAllPlaces u ys) (sym f) (subst (AreAllPlaces w) (sym e) h)
 
 pub all_tested : (w v : WheelParts) (xs ys : List Place) → ys ≡ xs → v ≡ w → AreAllPlaces w xs → All (IsTestedPlace v) ys
-all_tested w v xs ys e f h = let same = all_are w v xs ys e f h in all_from_contains (IsTestedPlace v) ys (λ p k. to_test v p ((same p).0 k))
+all_tested w v xs ys e f h = let same = all_are w v xs ys e f h in all_from_contains (IsTestedPlace v) ys (λ p k. to_test v p ((same.exact p).0 k))

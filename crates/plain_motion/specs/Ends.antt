@@ -1,5 +1,5 @@
 -- What a window keeps, and what it stands for.
-use Rattle.std.specs.Prelude.{◌≡◌, ◌≢◌, ℕ, ◌<◌, ℤ, take, List, [], ◌∷◌, All, Contains, ◌↔◌, Option, Some, None}
+use Rattle.std.specs.Prelude.{◌≡◌, ◌≢◌, ℕ, ◌<◌, ℤ, take, List, [], ◌∷◌, map, All, Contains, ◌↔◌, Option, Some, None}
 use Rattle.std.specs.Prelude.{Bool, true, false, IsTrue, ⊤}
 use Rattle.wheel_types.specs.declared.place.Place.{Place}
 use Rattle.wheel_types.specs.declared.instant.Instant.{Instant}
@@ -9,7 +9,8 @@ use Rattle.wheel_types.specs.Steps.{indices_of, crank_times}
 use Rattle.wheel_types.specs.PlainSteps.{is_standing}
 use Rattle.wheel_types.specs.Edges.{edge_count}
 use Rattle.wheel_types.specs.declared.channel.Channel.TheVariants.{Crank}
-use Rattle.cam_ranges.specs.Places.{IsPlace}
+use Rattle.cam_ranges.specs.Places.{IsPlace, IsAscending}
+use Rattle.cam_ranges.specs.Gathered.{AreExactly}
 use Rattle.legal_steps.specs.Times.{times_of, AreSmall}
 use Rattle.legal_steps.specs.TimedSteps.{IsTimedStep}
 use Rattle.plain_motion.specs.declared.window.Walk.{Walk}
@@ -20,9 +21,9 @@ pub record IsTestedPlace (w : WheelParts) (p : Place) : Type 0 where
   pub edge : p.j < edge_count w Crank
   pub standing : IsTrue (is_standing w (indices_of p))
 
--- these are all places of the wheel
+-- these are all places of the wheel, ascending
 abbrev pub AreAllPlaces : WheelParts → List Place → Type 0
-AreAllPlaces w places = (p : Place) → Contains places p ↔ IsPlace w p
+AreAllPlaces w places = AreExactly (IsPlace w) places
 
 -- the walk ends at a place of the wheel
 abbrev pub EndsOn : WheelParts → Walk → Type 0
@@ -38,13 +39,18 @@ abbrev pub some_instant : List Instant → Bool
 some_instant [] = false
 some_instant (i ∷ past) = true
 
+-- where the walks begin
+abbrev pub starts_of : List Walk → List Place
+starts_of walks = map (λ v. v.start) walks
+
 -- the walks are those of the motions that give the instants
 abbrev pub AreWalksOf : WheelParts → List Instant → List Walk → Type 0
 AreWalksOf w past walks = (a e : Place) → Contains walks (record { start = a; end = e }) ↔ Leads w past a e
 
--- what a window keeps is what its instants give
+-- what a window keeps is what its instants give: the walks, each once, by ascending start
 pub record Keeps (w : WheelParts) (s : Window) (past : List Instant) : Type 0 where
   pub walks : AreWalksOf w past s.walks
+  pub ascend : IsAscending (starts_of s.walks)
   pub begun : s.begun ≡ some_instant past
   pub times : times_of s.times ≡ take 2 (crank_times past)
 

@@ -5,9 +5,11 @@ ghost use Rattle.std.specs.List.{Any};
 ghost use Rattle.std.specs.List.Sorted.{IsStrictlySortedBy};
 ghost use Rattle.wheel_types.specs.declared.place.Place.{Place as Spot};
 ghost use Rattle.cam_ranges.specs.Places.{IsAscending};
+ghost use Rattle.plain_motion.specs.Ends.{starts_of};
 ghost use Rattle.plain_motion.specs.EndPlaces.{IsEndIn, AreEndsIn};
 
 use crate::window::{Walk, Window};
+use cam_ranges::is_less;
 use std::alloc::Global;
 use wheel_types::{List, Memory, Place};
 
@@ -59,6 +61,28 @@ pub fn walk_to(walks: &[Walk], end: Place) -> Option<Walk>
     for walk in walks {
         if walk.end == end {
             return Some(*walk);
+        }
+    }
+    None
+}
+
+/// The walk that begins at the place, if there is one. The walks, whose starts ascend, are halved until it is found, or none of them is
+/// left.
+pub fn walk_from(walks: &[Walk], start: Place) -> Option<Walk>
+    ensures { IsAscending (starts_of walks.now) → MatchOption result ((v : Way) → Contains walks.now v → v.start ≡ start → ⊥)
+        (λ v. Contains walks.now v × (v.start ≡ start)) }
+{
+    let mut low = 0;
+    let mut high = walks.len();
+    while low < high {
+        let middle = low + (high - low) / 2;
+        let walk = walks[middle];
+        if is_less(start, walk.start) {
+            high = middle;
+        } else if walk.start == start {
+            return Some(walk);
+        } else {
+            low = middle + 1;
         }
     }
     None

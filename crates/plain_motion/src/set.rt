@@ -13,7 +13,7 @@ ghost use Rattle.plain_motion.specs.Ends.{IsTestedPlace, AreAllPlaces, IsWindowO
 ghost use Rattle.plain_motion.specs.Memories.{BeginsAfter, Remembers};
 ghost use Rattle.plain_motion.specs.EndPlaces.{AreEndsOf};
 
-use crate::ends::{ends_of, walk_to};
+use crate::ends::{ends_of, walk_from, walk_to};
 use crate::window::Window;
 use cam_ranges::{PlaceFault, all_places};
 use edge_angles::Edges;
@@ -124,6 +124,19 @@ impl PlainSet {
         match walk_to(self.window.walks.as_slice(), end) {
             Some(walk) => walk.start,
             None => end,
+        }
+    }
+
+    /// Where the motions end that began at a place and give the instants of the window that the next instant comes into, if
+    /// there are any. It takes no memory.
+    pub fn end_of(&self, start: Place) -> Option<Place>
+        ensures { (past : Items Moment) (verdicts : Items Judgement) (set : StandsFor self.now past verdicts)
+            → MatchOption result ((e : Spot) → ¬ Leads (wheel_of self.now) set.kept.window start e)
+            (λ e. Leads (wheel_of self.now) set.kept.window start e) }
+    {
+        match walk_from(self.window.walks.as_slice(), start) {
+            Some(walk) => Some(walk.end),
+            None => None,
         }
     }
 

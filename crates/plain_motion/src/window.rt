@@ -10,8 +10,8 @@ pub struct Walk {
     pub end: Place,
 }
 
-/// A window: the walks of the motions that give its instants, each once, whether it has an instant, and the times of
-/// its last crank edges.
+/// A window: the walks of the motions that give its instants, each once, by ascending start; whether it has an instant, and the
+/// times of its last crank edges.
 #[derive(Drop)]
 pub struct Window {
     pub walks: List<Walk>,

@@ -4,8 +4,9 @@ ghost use Rattle.wheel_types.specs.Verdicts.{AllEarlier, IsVerdict};
 ghost use Rattle.wheel_types.specs.Wheels.{IsWheel};
 ghost use Rattle.wheel_types.specs.declared.instant.Instant.{Instant as Moment};
 ghost use Rattle.wheel_types.specs.declared.parts.WheelParts.{WheelParts as Parts};
+ghost use Rattle.cam_ranges.specs.Places.{IsAscending};
 ghost use Rattle.legal_steps.specs.Times.{times_of, AreSmall, IsSmall};
-ghost use Rattle.plain_motion.specs.Ends.{IsTestedPlace, AreAllPlaces, IsWindowOf, EndsOn, GoesOnTo, Keeps};
+ghost use Rattle.plain_motion.specs.Ends.{IsTestedPlace, AreAllPlaces, IsWindowOf, EndsOn, GoesOnTo, Keeps, starts_of};
 ghost use Rattle.plain_motion.specs.declared.window.Walk.{Walk as Way};
 
 use crate::least::least;
@@ -26,6 +27,7 @@ fn next_walks(
     requires times { AreSmall times }
     requires time { IsSmall instant.now.time }
     ensures ends { IfOk result (λ next. All (EndsOn motions.now.wheel.parts) next) }
+    ensures ascend { IfOk result (λ next. IsAscending (starts_of walks.now) → IsAscending (starts_of next)) }
     ensures steps { IfOk result (λ next. (u : Way)
         → Contains next u ↔ ((v : Way) × (Contains walks.now v × GoesOnTo motions.now.wheel.parts (times_of times) instant.now v u))) }
 {

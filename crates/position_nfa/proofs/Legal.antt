@@ -25,7 +25,8 @@ use Rattle.place_words.proofs.SetOf.{has-set_of, set_of-has, has-true, true-has}
 use Rattle.position_nfa.specs.Alphabets.{Alphabet, wheel, count, place}
 use Rattle.position_nfa.specs.Sets as sets
 use Rattle.position_nfa.specs.Sets.{next_gap, last_gap, first_ratio, last_ratio, is_from, keeps_time, keeps_ratio, walk_end, is_end, any_below}
-use Rattle.position_nfa.specs.Laws.{HasPlace, gaps_kept, gaps_kept_if, AreApart, TimeClassesAreLimits, RatioClassesAreLimits}
+use Rattle.position_nfa.specs.Laws.{HasPlace, gaps_kept, gaps_kept_if, TimeClassesAreLimits, RatioClassesAreLimits}
+use Rattle.position_nfa.proofs.RisingGaps.{AreApart}
 use Rattle.position_nfa.proofs.Gaps.{next_is_gap, are_gaps, last_some}
 use Rattle.position_nfa.proofs.Rows.{from_test, to_test}
 use Rattle.position_nfa.proofs.Filters.{any_below_from, any_below_to}

@@ -9,5 +9,8 @@ pub mod Shapes
 pub mod Built
 pub mod States
 pub mod Dead
+pub mod RisingGaps
 pub mod Legal
+pub mod Witnesses
+pub mod SingleSteps
 pub mod Steps

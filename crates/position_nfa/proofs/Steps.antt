@@ -18,10 +18,11 @@ use Rattle.place_words.proofs.SetOf.{is_set}
 use Rattle.position_nfa.specs.Alphabets.{Alphabet, IsAlphabetOf, wheel, count, place}
 use Rattle.legal_steps.specs.TimedSteps.{end_of}
 use Rattle.position_nfa.specs.Sets.{walk_end}
-use Rattle.position_nfa.specs.Laws.{HasPlace, gaps_kept_if, instant_set, AreApart, LettersAreSteps}
+use Rattle.position_nfa.specs.Laws.{HasPlace, gaps_kept_if, instant_set, LettersAreSteps}
 use Rattle.legal_steps.proofs.Walked.{end_whole, end_sound, no_limits}
 use Rattle.position_nfa.proofs.WalkTables.{shape_end}
 use Rattle.position_nfa.proofs.Legal.{by_gaps_if, by_shape}
+use Rattle.position_nfa.proofs.RisingGaps.{AreApart, crank_times_apart}
 
 edge_digit : (o : Option Pol) → o ≡ edge_of (digit_of o)
 edge_digit None = refl
@@ -87,4 +88,4 @@ own a past i set is set_is rising q = (
 pub letters_are_steps : LettersAreSteps
 letters_are_steps w a past i set is set_is rising q =
     subst (λ v. HasPlace a (instant_set a past i set) q ↔ ((p : Place) × (HasPlace a set p × IsLegalStep v past p i q))) is.cuts.wheel
-    (own a past i set (subst (λ v. IsAlphabetOf v a) (sym is.cuts.wheel) is) set_is rising q)
+    (own a past i set (subst (λ v. IsAlphabetOf v a) (sym is.cuts.wheel) is) set_is (crank_times_apart i past rising) q)

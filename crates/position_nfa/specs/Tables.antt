@@ -17,6 +17,7 @@ AreAllWalks w ps walks =
 
 -- the tables are those of the alphabet
 pub record AreTables (a : Alphabet) (time_masks ratio_masks : List ℕ) (walks : List Walks) : Type 0 where
+  pub some : 1 ≤ count a
   pub few : count a ≤ 16384
   pub distinct : (i k : ℕ) → i < count a → k < count a → place a i ≡ place a k → i ≡ k
   pub few_times : time_classes a ≤ 8193

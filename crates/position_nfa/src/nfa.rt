@@ -59,16 +59,18 @@ impl Nfa {
         })
     }
 
-    /// How many places there are, 16,384 at most. It takes no memory.
+    /// How many places there are, 1 at least and 16,384 at most. It takes no memory.
     pub fn place_count(&self) -> u32
-        ensures { result ≡ count (alphabet self.now) }
+        ensures count { result ≡ count (alphabet self.now) }
+        ensures some { 1 ≤ result }
     {
         self.places.as_slice().len() as u32
     }
 
     /// How many words a set has. It takes no memory.
     pub fn words(&self) -> usize
-        ensures { result ≡ words_for (count (alphabet self.now)) }
+        ensures words { result ≡ words_for (count (alphabet self.now)) }
+        ensures some { 1 ≤ result }
     {
         words_of(self.places.as_slice().len())
     }

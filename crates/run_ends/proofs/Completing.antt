@@ -1,11 +1,11 @@
 -- How work ends, by its parts.
-use Rattle.std.proofs.Common.{◌≡◌, ℕ, ◌⊎◌, inl, inr, List, Option, None, Some, Result, Ok, Err, refl, sym, ◌∙◌, subst, ap}
+use Rattle.std.proofs.Common.{◌≡◌, ℕ, ◌⊎◌, inl, inr, List, [], Option, None, Some, Result, Ok, Err, refl, sym, ◌∙◌, subst, ap}
 use Rattle.std.specs.Prelude.{IsTrue}
 use Rattle.shelf_traits.specs.Shelf.{View}
 use Rattle.run_ends.specs.declared.cause.Done.{Done}
 use Rattle.run_ends.specs.declared.cause.Cause.{Cause}
 use Rattle.run_ends.specs.declared.cause.Cause.TheVariants as cause
-use Rattle.run_ends.specs.Works.{Work, Told, Reads, Writes, HandsOn, StopsOpen, StopsRead, StopsWrite, Went}
+use Rattle.run_ends.specs.Works.{Work, Told, Reads, Judges, Writes, HandsOn, StopsOpen, StopsRead, StopsJudge, StopsWrite, stopped, Went}
 
 -- a fact of the end, by the ways in which a file can go
 pub reads_end : {X : Type 0} (v : View) (name : List ℕ) (gives : Cause → Type 0) (accepts : X → Type 0) (next : X → Work → Type 0) (P : Result Done Cause → Type 0) (work : Work)
@@ -17,6 +17,15 @@ reads_end {X} v name gives accepts next P work opening reading go r = by r.went
     by (inl (e, (s, is))) = subst (λ (k : Work). P k.end) (sym is) (opening e s)
     by (inr (inl (e, (taken, (s, is))))) = subst (λ (k : Work). P k.end) (sym is) (reading e s)
     by (inr (inr (x, (taken, (rest, (a, (n, is))))))) = subst (λ (k : Work). P k.end) (sym is) (go x rest a n)
+
+-- by what was judged
+pub judges_end : (gives : Cause → Type 0) (passes : Type 0) (next : Work → Type 0) (P : Result Done Cause → Type 0) (work : Work)
+    → ((e : Cause) → StopsJudge gives e → P (Err e)) → (passes → next work → P work.end) → Judges gives passes next work → P work.end
+judges_end gives passes next P work stop go j = by j.judged
+  where
+    by : ((e : Cause) × (StopsJudge gives e × (work ≡ stopped [] e))) ⊎ (passes × next work) → P work.end
+    by (inl (e, (s, is))) = subst (λ (k : Work). P k.end) (sym is) (stop e s)
+    by (inr (p, n)) = go p n
 
 pub writes_end : (due : List ℕ → Result Done Cause → Type 0) (P : Result Done Cause → Type 0) (work : Work) → ((text : List ℕ) (end : Result Done Cause) → due text end → P end)
     → ((e : Cause) → StopsWrite e → P (Err e)) → Writes due work → P work.end
@@ -51,6 +60,19 @@ reads_ready v name gives accepts next P bytes x work told steady there none one 
     reading (cause.Limit l) s = absurd (none (cause.Limit l) (s told))
     reading cause.WriteFault s = absurd s
 
+-- what gives no cause passes, or wants memory
+pub judges_ready : (gives : Cause → Type 0) (passes : Type 0) (next : Work → Type 0) (P : Result Done Cause → Type 0) (work : Work)
+    → ((e : Cause) → gives e → ⊥) → P (Err cause.Memory) → (next work → P work.end) → Judges gives passes next work → P work.end
+judges_ready gives passes next P work none memory go j = judges_end gives passes next P work stop (λ p n. go n) j
+  where
+    stop : (e : Cause) → StopsJudge gives e → P (Err e)
+    stop cause.Memory s = memory
+    stop cause.Usage s = absurd s
+    stop (cause.Refused r) s = absurd (none (cause.Refused r) s)
+    stop (cause.Limit l) s = absurd (none (cause.Limit l) s)
+    stop cause.ReadFault s = absurd s
+    stop cause.WriteFault s = absurd s
+
 -- no work ends for usage
 
 pub open_not_usage : (v : View) (name : List ℕ) (e : Cause) → StopsOpen v name e → e ≡ cause.Usage → ⊥
@@ -69,6 +91,14 @@ read_not_usage v gives cause.WriteFault s is = s
 read_not_usage v gives (cause.Refused r) s is = cc
 read_not_usage v gives (cause.Limit l) s is = cc
 
+pub judge_not_usage : (gives : Cause → Type 0) (e : Cause) → StopsJudge gives e → e ≡ cause.Usage → ⊥
+judge_not_usage gives cause.Usage s is = s
+judge_not_usage gives cause.ReadFault s is = s
+judge_not_usage gives cause.Memory s is = cc
+judge_not_usage gives cause.WriteFault s is = s
+judge_not_usage gives (cause.Refused r) s is = cc
+judge_not_usage gives (cause.Limit l) s is = cc
+
 pub write_not_usage : (e : Cause) → StopsWrite e → e ≡ cause.Usage → ⊥
 write_not_usage cause.Usage s is = s
 write_not_usage cause.ReadFault s is = s
@@ -76,3 +106,14 @@ write_not_usage cause.Memory s is = cc
 write_not_usage cause.WriteFault s is = cc
 write_not_usage (cause.Refused r) s is = s
 write_not_usage (cause.Limit l) s is = s
+
+not_cause : (e : Cause) → (e ≡ cause.Usage → ⊥) → ◌≡◌ {A = Result Done Cause} (Err e) (Err cause.Usage) → ⊥
+not_cause e n is = let same : e ≡ cause.Usage = cc in n same
+
+pub reads_not_usage : {X : Type 0} (v : View) (name : List ℕ) (gives : Cause → Type 0) (accepts : X → Type 0) (next : X → Work → Type 0) (work : Work)
+    → ((x : X) (rest : Work) → next x rest → rest.end ≡ Err cause.Usage → ⊥) → Reads v name gives accepts next work → work.end ≡ Err cause.Usage → ⊥
+reads_not_usage v name gives accepts next work go r =
+    reads_end v name gives accepts next (λ end. end ≡ Err cause.Usage → ⊥) work (λ e s. not_cause e (open_not_usage v name e s)) (λ e s. not_cause e (read_not_usage v gives e s)) (λ x rest a n. go x rest n) r
+
+pub writes_not_usage : (due : List ℕ → Result Done Cause → Type 0) (work : Work) → ((text : List ℕ) (end : Result Done Cause) → due text end → end ≡ Err cause.Usage → ⊥) → Writes due work → work.end ≡ Err cause.Usage → ⊥
+writes_not_usage due work whole r = writes_end due (λ end. end ≡ Err cause.Usage → ⊥) work whole (λ e s. not_cause e (write_not_usage e s)) r

@@ -4,7 +4,7 @@ use Rattle.shelf_traits.specs.Shelf.{View}
 use Rattle.run_ends.specs.declared.cause.Done.{Done}
 use Rattle.run_ends.specs.declared.cause.Cause.{Cause}
 use Rattle.run_ends.specs.declared.cause.Cause.TheVariants as cause
-use Rattle.run_ends.specs.Works.{Work, Told, Reads, Writes, HandsOn, StopsOpen, StopsRead, StopsWrite, Went}
+use Rattle.run_ends.specs.Works.{Work, Told, Reads, Judges, Writes, HandsOn, StopsOpen, StopsRead, StopsJudge, StopsWrite, stopped, Went}
 
 pub reads_out : {X : Type 0} (v : View) (name : List ℕ) (gives : Cause → Type 0) (accepts : X → Type 0) (next : X → Work → Type 0) (P : Result Done Cause → List ℕ → Type 0) (work : Work)
     → ((e : Cause) → StopsOpen v name e → P (Err e) []) → ((e : Cause) → StopsRead v gives e → P (Err e) []) → ((x : X) (rest : Work) → Told v (accepts x) → next x rest → P rest.end rest.out)
@@ -15,6 +15,14 @@ reads_out {X} v name gives accepts next P work opening reading go r = by r.went
     by (inl (e, (s, is))) = subst (λ (k : Work). P k.end k.out) (sym is) (opening e s)
     by (inr (inl (e, (taken, (s, is))))) = subst (λ (k : Work). P k.end k.out) (sym is) (reading e s)
     by (inr (inr (x, (taken, (rest, (a, (n, is))))))) = subst (λ (k : Work). P k.end k.out) (sym is) (go x rest a n)
+
+pub judges_out : (gives : Cause → Type 0) (passes : Type 0) (next : Work → Type 0) (P : Result Done Cause → List ℕ → Type 0) (work : Work)
+    → ((e : Cause) → StopsJudge gives e → P (Err e) []) → (passes → next work → P work.end work.out) → Judges gives passes next work → P work.end work.out
+judges_out gives passes next P work stop go j = by j.judged
+  where
+    by : ((e : Cause) × (StopsJudge gives e × (work ≡ stopped [] e))) ⊎ (passes × next work) → P work.end work.out
+    by (inl (e, (s, is))) = subst (λ (k : Work). P k.end k.out) (sym is) (stop e s)
+    by (inr (p, n)) = go p n
 
 pub writes_out : (due : List ℕ → Result Done Cause → Type 0) (P : Result Done Cause → List ℕ → Type 0) (work : Work) → ((text : List ℕ) (end : Result Done Cause) → due text end → P end text)
     → ((e : Cause) (text : List ℕ) (end : Result Done Cause) (k : ℕ) → due text end → k ≤ length text → StopsWrite e → P (Err e) (take k text)) → P (Err cause.Memory) [] → Writes due work → P work.end work.out

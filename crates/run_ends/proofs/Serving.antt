@@ -10,7 +10,7 @@ use Rattle.run_ends.specs.declared.cause.Cause.{Cause}
 use Rattle.run_ends.specs.declared.cause.Cause.TheVariants as cause
 use Rattle.run_ends.specs.Prefixes.{AppendsPrefix}
 use Rattle.shelf_io.specs.Touching.{Touches, RoseOut}
-use Rattle.run_ends.specs.Works.{Work, Told, Reads, Writes, HandsOn, StopsOpen, StopsRead, StopsWrite, stopped, read_slot, after}
+use Rattle.run_ends.specs.Works.{Work, Told, Reads, Judges, Writes, HandsOn, StopsOpen, StopsRead, StopsJudge, StopsWrite, stopped, read_slot, after}
 use Rattle.run_ends.specs.Loads.{HasRead, Loads}
 use Rattle.run_ends.specs.Serving.{Stream, Served, Handed}
 use Rattle.run_ends.proofs.Noting.{rose_before, rose_later}
@@ -197,6 +197,40 @@ nothing_done allows writes v out e a no_read no_write = record {
 -- memory was wanting before anything was written
 pub no_memory : (due : List ℕ → Result Done Cause → Type 0) (writes : Option (List ℕ)) (v : View) (out : Stream) → Served (Writes due) writes v v out out [] (Err cause.Memory)
 no_memory due writes v out = nothing_done (Writes due) writes v out cause.Memory (inr (inr refl)) (λ is. cc) (λ is. cc)
+
+not_judged : (gives : Cause → Type 0) (e : Cause) → StopsJudge gives e → (e ≡ cause.ReadFault → ⊥) × (e ≡ cause.WriteFault → ⊥)
+not_judged gives cause.Memory s = (λ is. cc, λ is. cc)
+not_judged gives (cause.Refused r) s = (λ is. cc, λ is. cc)
+not_judged gives (cause.Limit l) s = (λ is. cc, λ is. cc)
+not_judged gives cause.Usage s = absurd s
+not_judged gives cause.ReadFault s = absurd s
+not_judged gives cause.WriteFault s = absurd s
+
+-- what was read gives a cause to end
+pub judged_out : (gives : Cause → Type 0) (passes : Type 0) (next : Work → Type 0) (writes : Option (List ℕ)) (v : View) (out : Stream) (e : Cause) → StopsJudge gives e
+    → Served (Judges gives passes next) writes v v out out [] (Err e)
+judged_out gives passes next writes v out e s =
+    let n = not_judged gives e s in
+    nothing_done (Judges gives passes next) writes v out e (record { judged = inl (e, (s, refl)) }) n.0 n.1
+
+-- what was read passes, and the work goes on
+pub passed : (gives : Cause → Type 0) (passes : Type 0) (next : Work → Type 0) (writes : Option (List ℕ)) (v w : View) (old new : Stream) (tails : List ℕ) (end : Result Done Cause)
+    → passes → Served next writes v w old new tails end → Served (Judges gives passes next) writes v w old new tails end
+passed gives passes next writes v w old new tails end p s = record {
+  work = s.work;
+  allowed = record { judged = inr (p, s.allowed) };
+  ends = s.ends;
+  closes = s.closes;
+  out = s.out;
+  shelf = s.shelf;
+  read = s.read;
+  read_settled = s.read_settled;
+  write = s.write;
+  write_settled = s.write_settled;
+  calm = s.calm;
+  later = s.later;
+  steady = s.steady;
+}
 
 -- words that are no command
 pub no_command : (writes : Option (List ℕ)) (v : View) (out : Stream) → Served (λ work. work ≡ stopped [] cause.Usage) writes v v out out [] (Err cause.Usage)

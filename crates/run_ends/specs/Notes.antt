@@ -104,10 +104,13 @@ refusal_line (refusal.Wheel no_wheel) = pattern_line no_wheel.fault
 refusal_line (refusal.Table no_table) = table_line no_table.fault
 refusal_line (refusal.Csv fault) = csv_line fault
 refusal_line (refusal.Vcd fault) = vcd_line fault
+refusal_line (refusal.Report at) = line_at (codes "report: bad line ") at
+refusal_line (refusal.Certificate at) = line_at (codes "certificate: bad line ") at
 
 -- the line of a limit that was passed
 abbrev pub limit_line : Limit → List ℕ
 limit_line limit.Places = line (codes "limit: places")
+limit_line (limit.States most) = line_at (codes "limit: states ") most
 limit_line limit.File = line (codes "limit: file")
 
 -- the line of a cause

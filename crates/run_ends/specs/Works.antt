@@ -59,6 +59,17 @@ Went {X} v name gives accepts next work =
 pub record Reads {X : Type 0} (v : View) (name : List ℕ) (gives : Cause → Type 0) (accepts : X → Type 0) (next : X → Work → Type 0) (work : Work) : Type 0 where
   pub went : Went v name gives accepts next work
 
+-- why a judgement stops the work: want of memory, or what is judged gives the cause
+abbrev pub StopsJudge : (Cause → Type 0) → Cause → Type 0
+StopsJudge gives cause.Memory = ⊤
+StopsJudge gives (cause.Refused r) = gives (cause.Refused r)
+StopsJudge gives (cause.Limit l) = gives (cause.Limit l)
+StopsJudge gives e = ⊥
+
+-- What was read is judged: it gives the cause for which the work ends, or passes and the work goes on; or memory was wanting.
+pub record Judges (gives : Cause → Type 0) (passes : Type 0) (next : Work → Type 0) (work : Work) : Type 0 where
+  pub judged : ((e : Cause) × (StopsJudge gives e × (work ≡ stopped [] e))) ⊎ (passes × next work)
+
 -- why writing stops
 abbrev pub StopsWrite : Cause → Type 0
 StopsWrite cause.WriteFault = ⊤

@@ -14,6 +14,10 @@ pub enum Refusal {
     Csv(CsvFault),
     /// The value change dump has a fault.
     Vcd(VcdFault),
+    /// The report has a line that is none of a report; `at` counts lines from 1.
+    Report { at: u64 },
+    /// The certificate has a line that is none of a certificate; `at` counts lines from 1.
+    Certificate { at: u64 },
 }
 
 /// Which limit was passed.
@@ -21,6 +25,8 @@ pub enum Refusal {
 pub enum Limit {
     /// The wheel has more than 16,384 places.
     Places,
+    /// The family of the wheel's set automaton has more states than this, which is the limit that holds.
+    States { limit: u32 },
     /// A file has more than 2^28 bytes.
     File,
 }

@@ -6,9 +6,11 @@ mod ending;
 mod lines;
 mod refused;
 mod status;
+mod writing;
 
 pub use cause::{Cause, Done, Limit, Refusal};
 pub use ending::{finish, hand_on};
 pub use lines::{Line, note};
 pub use refused::{NoTable, NoWheel};
 pub use status::Status;
+pub use writing::put;

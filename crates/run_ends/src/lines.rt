@@ -189,6 +189,8 @@ fn refusal_note(refusal: Refusal) -> Line
         Refusal::Table(no_table) => table_note(no_table.fault),
         Refusal::Csv(fault) => csv_note(fault),
         Refusal::Vcd(fault) => vcd_note(fault),
+        Refusal::Report { at } => with_number("report: bad line ", at),
+        Refusal::Certificate { at } => with_number("certificate: bad line ", at),
     }
 }
 
@@ -198,6 +200,7 @@ fn limit_note(limit: Limit) -> Line
 {
     match limit {
         Limit::Places => plain("limit: places"),
+        Limit::States { limit } => with_number("limit: states ", limit as u64),
         Limit::File => plain("limit: file"),
     }
 }

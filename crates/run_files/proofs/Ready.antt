@@ -1,5 +1,5 @@
 -- Accepted files give no cause to end but want of memory and a failed write.
-use Rattle.std.proofs.Common.{◌≡◌, ℕ, inl, inr, List, length, Option, None, Some, Result, Ok, Err, refl, sym, ◌∙◌, subst, ap, arith}
+use Rattle.std.proofs.Common.{◌≡◌, ℕ, inl, inr, List, [], ◌∷◌, ◌++◌, length, Option, None, Some, Result, Ok, Err, refl, sym, ◌∙◌, subst, ap, arith}
 use Rattle.wheel_types.specs.declared.parts.WheelParts.{WheelParts}
 use Rattle.wheel_pattern.specs.declared.fault.PatternFault.{PatternFault}
 use Rattle.c_tables.specs.declared.fault.TableFault.{TableFault}
@@ -12,8 +12,13 @@ use Rattle.run_ends.specs.declared.cause.Cause.{Cause}
 use Rattle.run_ends.specs.declared.cause.Cause.TheVariants as cause
 use Rattle.run_ends.specs.declared.cause.Refusal.TheVariants as refusal
 use Rattle.run_ends.specs.declared.cause.Limit.TheVariants as limit
-use Rattle.run_files.specs.Files.{Holds, IsTooLong, HasWheel, HasPlacedWheel, HasTable}
-use Rattle.run_files.specs.Causes.{FileGives, ModelGives, SourceGives}
+use Rattle.wheel_types.specs.declared.verdict.Report.{Report}
+use Rattle.pair_certificate.specs.declared.line.CertLine.{CertLine}
+use Rattle.pair_certificate.specs.Lines.{lines_of}
+use Rattle.pair_certificate.specs.Readings.{AreLines, IsReportLine, IsCertLine, IsFirstBadLine, MeansReports, MeansCertificate}
+use Rattle.pair_certificate.proofs.OneMeaning.{one_report, one_certificate}
+use Rattle.run_files.specs.Files.{Holds, IsTooLong, HasWheel, HasPlacedWheel, HasTable, HasReport, HasCertificate}
+use Rattle.run_files.specs.Causes.{FileGives, ModelGives, SourceGives, ReportGives, CertificateGives}
 use Rattle.cam_ranges.specs.Places.{HasTooMany}
 
 -- a file has one list of bytes
@@ -44,6 +49,9 @@ model_gives_none file name w h (cause.Limit limit.File) g = not_too_long file na
 model_gives_none file name w h (cause.Refused (refusal.Table fault)) g = g
 model_gives_none file name w h (cause.Refused (refusal.Csv fault)) g = g
 model_gives_none file name w h (cause.Refused (refusal.Vcd fault)) g = g
+model_gives_none file name w h (cause.Refused (refusal.Report at)) g = g
+model_gives_none file name w h (cause.Refused (refusal.Certificate at)) g = g
+model_gives_none file name w h (cause.Limit (limit.States most)) g = g
 model_gives_none file name w h cause.Usage g = g
 model_gives_none file name w h cause.ReadFault g = g
 model_gives_none file name w h cause.WriteFault g = g
@@ -53,6 +61,7 @@ model_gives_none file name w h cause.Memory g = g
 pub file_gives_none : (file : List ℕ → Option (List ℕ)) (name bytes : List ℕ) → Holds file name bytes → (e : Cause) → FileGives file name e → ⊥
 file_gives_none file name bytes h (cause.Limit limit.File) g = not_too_long file name bytes h g
 file_gives_none file name bytes h (cause.Limit limit.Places) g = g
+file_gives_none file name bytes h (cause.Limit (limit.States most)) g = g
 file_gives_none file name bytes h (cause.Refused r) g = g
 file_gives_none file name bytes h cause.Usage g = g
 file_gives_none file name bytes h cause.ReadFault g = g
@@ -68,8 +77,11 @@ source_gives_none file source name slots h (cause.Refused (refusal.Table no_tabl
 source_gives_none file source name slots h (cause.Refused (refusal.Wheel fault)) g = g
 source_gives_none file source name slots h (cause.Refused (refusal.Csv fault)) g = g
 source_gives_none file source name slots h (cause.Refused (refusal.Vcd fault)) g = g
+source_gives_none file source name slots h (cause.Refused (refusal.Report at)) g = g
+source_gives_none file source name slots h (cause.Refused (refusal.Certificate at)) g = g
 source_gives_none file source name slots h (cause.Limit limit.File) g = not_too_long file source h.bytes h.holds g
 source_gives_none file source name slots h (cause.Limit limit.Places) g = g
+source_gives_none file source name slots h (cause.Limit (limit.States most)) g = g
 source_gives_none file source name slots h cause.Usage g = g
 source_gives_none file source name slots h cause.ReadFault g = g
 source_gives_none file source name slots h cause.WriteFault g = g
@@ -80,3 +92,52 @@ pub file_has_one_table : (file : List ℕ → Option (List ℕ)) (source name a 
 file_has_one_table file source name a b h k =
     let e : ◌≡◌ {A = Result (List ℕ) TableFault} (Ok a) (Ok b) = sym h.table ∙ ap (table_in name) (same_bytes file source h.bytes k.bytes h.holds k.holds) ∙ k.table in
     cc
+
+-- a text whose lines all have values has no first line without one
+no_bad_line : {X : Type 0} (IsLine : List ℕ → X → Type 0) (good rest : List (List ℕ)) (bad : List ℕ) (xs : List X) → AreLines IsLine (good ++ bad ∷ rest) xs → (x : X) × IsLine bad x
+no_bad_line IsLine [] rest bad (x ∷ xs) a = (x, a.0)
+no_bad_line IsLine [] rest bad [] a = absurd a
+no_bad_line IsLine (line ∷ good) rest bad (x ∷ xs) a = no_bad_line IsLine good rest bad xs a.1
+no_bad_line IsLine (line ∷ good) rest bad [] a = absurd a
+
+not_both_lines : {X : Type 0} (IsLine : List ℕ → X → Type 0) (bytes : List ℕ) (xs : List X) (at : ℕ) → AreLines IsLine (lines_of bytes) xs → IsFirstBadLine IsLine bytes at → ⊥
+not_both_lines IsLine bytes xs at a b =
+    let found = no_bad_line IsLine b.good b.rest b.bad xs (subst (λ lines. AreLines IsLine lines xs) b.whole a) in
+    b.refused found.0 found.1
+
+-- nor does a report
+pub report_gives_none : (file : List ℕ → Option (List ℕ)) (name : List ℕ) (rs : List Report) → HasReport file name rs → (e : Cause) → ReportGives file name e → ⊥
+report_gives_none file name rs h (cause.Refused (refusal.Report at)) (bytes, (holds, f)) =
+    not_both_lines IsReportLine bytes rs at (subst (λ b. MeansReports b rs) (same_bytes file name h.bytes bytes h.holds holds) h.means) f
+report_gives_none file name rs h (cause.Refused (refusal.Wheel fault)) g = g
+report_gives_none file name rs h (cause.Refused (refusal.Table fault)) g = g
+report_gives_none file name rs h (cause.Refused (refusal.Csv fault)) g = g
+report_gives_none file name rs h (cause.Refused (refusal.Vcd fault)) g = g
+report_gives_none file name rs h (cause.Refused (refusal.Certificate at)) g = g
+report_gives_none file name rs h (cause.Limit l) g = file_gives_none file name h.bytes h.holds (cause.Limit l) g
+report_gives_none file name rs h cause.Usage g = g
+report_gives_none file name rs h cause.ReadFault g = g
+report_gives_none file name rs h cause.WriteFault g = g
+report_gives_none file name rs h cause.Memory g = g
+
+-- nor does a certificate
+pub certificate_gives_none : (file : List ℕ → Option (List ℕ)) (name : List ℕ) (cs : List CertLine) → HasCertificate file name cs → (e : Cause) → CertificateGives file name e → ⊥
+certificate_gives_none file name cs h (cause.Refused (refusal.Certificate at)) (bytes, (holds, f)) =
+    not_both_lines IsCertLine bytes cs at (subst (λ b. MeansCertificate b cs) (same_bytes file name h.bytes bytes h.holds holds) h.means) f
+certificate_gives_none file name cs h (cause.Refused (refusal.Wheel fault)) g = g
+certificate_gives_none file name cs h (cause.Refused (refusal.Table fault)) g = g
+certificate_gives_none file name cs h (cause.Refused (refusal.Csv fault)) g = g
+certificate_gives_none file name cs h (cause.Refused (refusal.Vcd fault)) g = g
+certificate_gives_none file name cs h (cause.Refused (refusal.Report at)) g = g
+certificate_gives_none file name cs h (cause.Limit l) g = file_gives_none file name h.bytes h.holds (cause.Limit l) g
+certificate_gives_none file name cs h cause.Usage g = g
+certificate_gives_none file name cs h cause.ReadFault g = g
+certificate_gives_none file name cs h cause.WriteFault g = g
+certificate_gives_none file name cs h cause.Memory g = g
+
+-- a file has one report, and one certificate
+pub file_has_one_report : (file : List ℕ → Option (List ℕ)) (name : List ℕ) (a b : List Report) → HasReport file name a → HasReport file name b → a ≡ b
+file_has_one_report file name a b h k = one_report k.bytes a b (subst (λ bytes. MeansReports bytes a) (same_bytes file name h.bytes k.bytes h.holds k.holds) h.means) k.means
+
+pub file_has_one_certificate : (file : List ℕ → Option (List ℕ)) (name : List ℕ) (a b : List CertLine) → HasCertificate file name a → HasCertificate file name b → a ≡ b
+file_has_one_certificate file name a b h k = one_certificate k.bytes a b (subst (λ bytes. MeansCertificate bytes a) (same_bytes file name h.bytes k.bytes h.holds k.holds) h.means) k.means

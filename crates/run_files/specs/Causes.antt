@@ -4,6 +4,7 @@ use Rattle.std.specs.declared.option.Option.{Option}
 use Rattle.wheel_types.specs.declared.parts.WheelParts.{WheelParts}
 use Rattle.wheel_pattern.specs.WheelFile.{HasFault}
 use Rattle.c_tables.specs.Tables.{table_in}
+use Rattle.pair_certificate.specs.Readings.{IsReportLine, IsCertLine, IsFirstBadLine}
 use Rattle.capture_core.specs.declared.capture.End.{End}
 use Rattle.capture_core.specs.declared.capture.End.TheVariants.{Clean, Csv, Vcd}
 use Rattle.run_files.specs.Files.{Holds, IsTooLong, HasWheel}
@@ -30,6 +31,16 @@ ModelGives file name e = FileGives file name e
 abbrev pub SourceGives : (List ℕ → Option (List ℕ)) → List ℕ → List ℕ → Cause → Type 0
 SourceGives file source name (cause.Refused (refusal.Table no_table)) = (bytes : List ℕ) × (Holds file source bytes × (table_in name bytes ≡ Err no_table.fault))
 SourceGives file source name e = FileGives file source e
+
+-- a report's file gives this cause: it has a line that is none of a report, of which this is the first
+abbrev pub ReportGives : (List ℕ → Option (List ℕ)) → List ℕ → Cause → Type 0
+ReportGives file name (cause.Refused (refusal.Report at)) = (bytes : List ℕ) × (Holds file name bytes × IsFirstBadLine IsReportLine bytes at)
+ReportGives file name e = FileGives file name e
+
+-- a certificate's file gives this cause: it has a line that is none of a certificate, of which this is the first
+abbrev pub CertificateGives : (List ℕ → Option (List ℕ)) → List ℕ → Cause → Type 0
+CertificateGives file name (cause.Refused (refusal.Certificate at)) = (bytes : List ℕ) × (Holds file name bytes × IsFirstBadLine IsCertLine bytes at)
+CertificateGives file name e = FileGives file name e
 
 -- a run is done where its capture ends clean, and else ends for the capture's fault
 abbrev pub ended_by : End → Result Done Cause

@@ -9,6 +9,9 @@ use Rattle.capture_core.specs.declared.capture.Capture.{Capture}
 use Rattle.capture_file.specs.Forms.{file_capture}
 use Rattle.wheel_pattern.specs.WheelFile.{MeansWheel}
 use Rattle.c_tables.specs.Tables.{table_in}
+use Rattle.wheel_types.specs.declared.verdict.Report.{Report}
+use Rattle.pair_certificate.specs.declared.line.CertLine.{CertLine}
+use Rattle.pair_certificate.specs.Readings.{MeansReports, MeansCertificate}
 
 -- the file of this name is there with these bytes, and is not too long
 pub record Holds (file : List ℕ → Option (List ℕ)) (name bytes : List ℕ) : Type 0 where
@@ -41,3 +44,15 @@ pub record HasTable (file : List ℕ → Option (List ℕ)) (source name slots :
   pub bytes : List ℕ
   pub holds : Holds file source bytes
   pub table : table_in name bytes ≡ Ok slots
+
+-- the file is a report of these lines
+pub record HasReport (file : List ℕ → Option (List ℕ)) (name : List ℕ) (reports : List Report) : Type 0 where
+  pub bytes : List ℕ
+  pub holds : Holds file name bytes
+  pub means : MeansReports bytes reports
+
+-- the file is a certificate of these lines
+pub record HasCertificate (file : List ℕ → Option (List ℕ)) (name : List ℕ) (lines : List CertLine) : Type 0 where
+  pub bytes : List ℕ
+  pub holds : Holds file name bytes
+  pub means : MeansCertificate bytes lines

@@ -1,8 +1,10 @@
 //! The files that a command names: what they hold, and for which cause they end a run.
 #![tactic(auto)]
 
+mod lines;
 mod load;
 mod model;
 
+pub use lines::{load_certificate, load_report};
 pub use load::{ended, load_capture, load_table};
-pub use model::{Model, load_model};
+pub use model::{Model, load_model, load_wheel};

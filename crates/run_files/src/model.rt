@@ -26,7 +26,11 @@ pub struct Model {
 }
 
 /// Reads the wheel of a model's file.
-fn load_wheel<S: Shelf>(alloc: Global, shelf: &mut S, name: &str) -> Result<Wheel, Cause>
+///
+/// # Errors
+/// `Refusal::Wheel` with the first fault of a file that is no wheel's; `ReadFault` where the shelf failed, `Limit::File` past 2^28
+/// bytes, or `Memory`.
+pub fn load_wheel<S: Shelf>(alloc: Global, shelf: &mut S, name: &str) -> Result<Wheel, Cause>
     ensures { Loads (S.view shelf.old) (S.view shelf.old) (S.view shelf.new) name.now (ModelGives (S.view shelf.old).file name.now) (λ wheel. HasWheel (S.view shelf.old).file name.now wheel.parts) result }
 {
     let bytes = load(alloc, shelf, name)?;
@@ -77,6 +81,7 @@ pub fn load_model<S: Shelf>(alloc: Global, shelf: &mut S, name: &str) -> Result<
     ensures built { IfOk result (λ model. IsWheel model.wheel.parts) }
     ensures edges { IfOk result (λ model. AreEdgesOf model.wheel.parts model.edges) }
     ensures fresh { IfOk result (λ model. IsFreshSet model.wheel.parts model.set) }
+    ensures few { IfOk result (λ model. ¬ HasTooMany model.wheel.parts) }
 {
     let wheel = load_wheel(alloc, shelf, name)?;
     let edges = edges_of(alloc, &wheel)?;

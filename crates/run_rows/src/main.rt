@@ -2,15 +2,17 @@
 //!
 //! Fields of a row are `replay OPTIONS | WHEEL | CAPTURE`; or `prefixes | WHEEL | CAPTURE` for all that the capture begins with; or
 //! `WORDS | FAILING | WHEEL | CAPTURE` where a call of the shelf, or a write on out or on notes, fails, or out is a stream that has room
-//! for so many bytes; or `WORDS | REPORT` over the files beside the program, with the file of what out gets. A blank stands between two words, `~` for a blank in a word, and `�` in a file for
+//! for so many bytes; or `WORDS | FAILING | WHEEL | CAPTURE | REPORT | CERT` over the files of a check; or `WORDS | REPORT` over the files beside the program, with the file of what out gets. A blank stands between two words, `~` for a blank in a word, and `�` in a file for
 //! the byte 255, which no text has.
 #![tactic(auto)]
 
+mod checks;
 mod examples;
 mod memory;
 mod prefixes;
 mod streams;
 
+use checks::told_of_check;
 use examples::told_of_files;
 use memory::{bytes_of, told_of_replay, told_of_words};
 use prefixes::told_of_prefixes;
@@ -39,6 +41,9 @@ impl Tells for Runs<'_> {
                     Some(room) => told_of_stream(alloc, words, room, (&files.0, &files.1)),
                     None => told_of_words(alloc, words, failing, (&files.0, &files.1)),
                 }
+            }
+            [words, failing, wheel, capture, report, cert] => {
+                told_of_check(alloc, words, failing, [wheel, capture, report, cert])
             }
             _ => Ok(None),
         }

@@ -31,7 +31,7 @@ pub fn bytes_of(alloc: Global, text: &str) -> Result<Vec<u8>, AllocError> {
 }
 
 /// A file for a shelf.
-fn file_of(alloc: Global, name: &str, bytes: &[u8]) -> Result<(String, Vec<u8>), AllocError>
+pub fn file_of(alloc: Global, name: &str, bytes: &[u8]) -> Result<(String, Vec<u8>), AllocError>
     ensures { IfOk result (λ file. string_bytes file.0 ≡ name.now) }
 {
     Ok((String::from_str(alloc, name)?, bytes.to_vec(alloc)?))
@@ -50,7 +50,7 @@ pub fn shelf_of(
 }
 
 /// The call that fails, where words give its kind and a number.
-fn fails_of(alloc: Global, failing: &str, kind: &str) -> Result<Vec<u64>, AllocError> {
+pub fn fails_of(alloc: Global, failing: &str, kind: &str) -> Result<Vec<u64>, AllocError> {
     let mut numbers = Vec::new(alloc);
     let number = failing.strip_prefix(kind).unwrap_or("");
     if let Ok(number) = number.trim().parse::<u64>() {

@@ -14,7 +14,27 @@ struct Slot<F: Drop> {
     file: F,
 }
 
+// Files that hold nothing. Each takes the first free number of the system's, so that three of them take those of the
+// standard streams that were closed when the program began.
+#[derive(Drop)]
+struct Fillers<F: Drop> {
+    first: Option<F>,
+    second: Option<F>,
+    third: Option<F>,
+}
+
+// A file that holds nothing, where the system has it.
+fn filler<R: Files>(files: &R) -> Option<R::File> {
+    match fs::open(files, "/dev/null") {
+        Ok(file) => Some(file),
+        Err(_) => None,
+    }
+}
+
 /// The files of the system as a shelf, by their paths.
+///
+/// A standard stream that was closed when the program began stays closed to the shelf's files: none of them gets its
+/// number, so nothing that is meant for the stream goes into a file, and no file is read in the stream's place.
 ///
 /// It tells its counts and which call gave each slot, and no bytes. The count of the call's own
 /// kind rises at each fault of the system, and at a write that takes nothing. `Memory` comes before
@@ -22,6 +42,7 @@ struct Slot<F: Drop> {
 #[derive(Drop)]
 pub struct RealShelf<'a, R: Files> {
     files: &'a R,
+    fillers: Fillers<R::File>,
     slots: Vec<Slot<R::File>>,
     faults_in: u64,
     faults_out: u64,
@@ -36,8 +57,14 @@ impl<'a, R: Files> RealShelf<'a, R> {
         ensures faults_out { result.faults_out ≡ 0 }
         ensures slots { result.slots.items ≡ [] }
     {
+        let fillers = Fillers {
+            first: filler(files),
+            second: filler(files),
+            third: filler(files),
+        };
         RealShelf {
             files,
+            fillers,
             slots: Vec::new(alloc),
             faults_in: 0,
             faults_out: 0,

@@ -7,7 +7,7 @@ use Rattle.std.proofs.lemmas.List.Elements.{Contains-get_or, Contains-push, Cont
 use Rattle.std.proofs.lemmas.Map.Keys.{IsDistinct-push}
 use Rattle.std.proofs.lemmas.Map.Views.{Contains-from_any}
 use Rattle.std.proofs.lemmas.Option.{slice_get_within, slice_get-get_or, get_or_from_slice_get, slice_get_past}
-use Rattle.subset_build.specs.Family.{Reaches, IsMember, IsPart, IsFamily, numbered, numbered_if, taken, taken_if, explored, IsNumbering}
+use Rattle.position_nfa.specs.Family.{Reaches, IsMember, IsPart, IsFamily, numbered, numbered_if, taken, taken_if, explored, IsNumbering}
 
 -- an element stays at its place where the list grows at its end
 pub slice_get-append : {X : Type 0} (xs ys : List X) (i : ℕ) (x : X) → slice_get xs i ≡ Some x → slice_get (xs ++ ys) i ≡ Some x

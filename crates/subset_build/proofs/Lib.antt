@@ -1,3 +1,4 @@
 pub mod FamilyLaws
 pub mod Limits
 pub mod Reached
+pub mod RowLaws

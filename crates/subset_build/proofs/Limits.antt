@@ -16,9 +16,10 @@ use Rattle.place_words.proofs.SetOf.{set_of-empty}
 use Rattle.position_nfa.specs.Letters.{leads}
 use Rattle.position_nfa.specs.Sets.{effect}
 use Rattle.position_nfa.specs.Step.{state_if}
-use Rattle.subset_build.specs.Family.{IsMember, IsPart, taken_if}
+use Rattle.position_nfa.specs.Family.{IsMember, IsPart, taken_if}
 use Rattle.subset_build.proofs.FamilyLaws.{length-taken, taken_keeps, Contains-kept, numbered_keeps, Contains-slice_get, family_of_numbering, explored_part, taken_part, member_next, nothing, part_push}
-use Rattle.subset_build.specs.Families.{IsFamily, IsNumbering, IsPastLimit, explored, taken, numbered, numbered_if, IsFull, LeadsToFull, FillsUp}
+use Rattle.position_nfa.specs.Families.{IsNumbering, explored, taken, numbered, numbered_if}
+use Rattle.subset_build.specs.Families.{IsFamily, IsPastLimit, IsFull, LeadsToFull, FillsUp}
 
 pub found_number : (ks : List Pair) (i : ℕ) (p : Pair) → position (same p) ks ≡ Some i → slice_get ks i ≡ Some p
 found_number ks i p h =

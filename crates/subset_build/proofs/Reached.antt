@@ -13,8 +13,9 @@ use Rattle.position_nfa.specs.Sets.{effect, time_kept, no_places, all_places}
 use Rattle.position_nfa.specs.Step.{same, next_state, dead_state, start_state, state_of, state_if, phase_of}
 use Rattle.position_nfa.proofs.States.{effect-is_set, state_of-none, same-equal, same-laws}
 use Rattle.position_nfa.proofs.Dead.{keeps_none}
-use Rattle.subset_build.specs.Family as family
-use Rattle.subset_build.specs.Families.{IsFamily, IsLeastFamily, IsReached, IsPastLimit, HasMore}
+use Rattle.position_nfa.specs.Family as family
+use Rattle.position_nfa.specs.Families.{IsLeastFamily, IsReached}
+use Rattle.subset_build.specs.Families.{IsFamily, IsPastLimit, HasMore}
 
 leads_shape : (t r : ℕ) → leads t r 0 (t + r) ≡ Some 1
 leads_shape t r =

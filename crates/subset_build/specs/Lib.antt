@@ -1,4 +1,3 @@
-pub mod Family
 pub mod Families
 pub mod Limit
 pub mod Views

@@ -1,5 +1,5 @@
 -- The limit on the states of an automaton.
-use Rattle.std.specs.Prelude.{ℕ, ◌/◌, ◌^◌, min, max}
+use Rattle.std.specs.Prelude.{ℕ, ◌/◌, ◌^◌, min}
 use Rattle.place_words.specs.Words.{words_for}
 use Rattle.position_nfa.specs.Alphabets.{Alphabet, width, count}
 
@@ -14,4 +14,4 @@ most_cells = 2 ^ 23
 -- the limit that holds where one is given: the least of it, of the most states, and of the most cells by the words of a set and by the
 -- columns of a row, both rounded down
 abbrev pub effective_limit : Alphabet → ℕ → ℕ
-effective_limit a limit = min (min limit most_states) (min (most_cells / max 1 (words_for (count a))) (most_cells / width a))
+effective_limit a limit = min (min limit most_states) (min (most_cells / words_for (count a)) (most_cells / width a))

@@ -5,7 +5,8 @@ ghost use Rattle.place_words.specs.Words.{words_for};
 ghost use Rattle.position_nfa.specs.Step.{dead_state, start_state};
 ghost use Rattle.position_nfa.specs.Alphabets.{IsAlphabetOf, count};
 ghost use Rattle.position_nfa.specs.Views.{alphabet};
-ghost use Rattle.subset_build.specs.Families.{IsLeastFamily, IsNumbering, IsPastLimit, HasMore, explored};
+ghost use Rattle.position_nfa.specs.Families.{IsLeastFamily, IsNumbering, explored};
+ghost use Rattle.subset_build.specs.Families.{IsPastLimit, HasMore};
 ghost use Rattle.subset_build.specs.Limit.{effective_limit};
 ghost use Rattle.subset_build.specs.Views.{states_of};
 
@@ -20,7 +21,7 @@ use std::alloc::{AllocError, Global};
 use wheel_types::List;
 
 /// Words of zeros for one set.
-fn empty_words(alloc: Global, nfa: &Nfa) -> Result<Vec<u64>, AllocError>
+pub fn empty_words(alloc: Global, nfa: &Nfa) -> Result<Vec<u64>, AllocError>
     ensures { IfOk result (λ v. length v.items ≡ words_for (count (alphabet nfa.now))) }
 {
     let mut out = Vec::new(alloc);
@@ -55,7 +56,7 @@ fn dead_pair(alloc: Global, nfa: &Nfa) -> Result<Pair, AllocError>
 }
 
 /// Gives numbers to the dead state and the start.
-fn first_states(
+pub fn first_states(
     alloc: Global,
     nfa: &Nfa,
     limit: u32,
@@ -74,7 +75,7 @@ fn first_states(
 }
 
 /// A copy of state `q`.
-fn state_at(alloc: Global, states: &IndexSet<Pair>, q: usize) -> Result<Pair, AllocError>
+pub fn state_at(alloc: Global, states: &IndexSet<Pair>, q: usize) -> Result<Pair, AllocError>
     requires { q < length states.now.keys }
     ensures { IfOk result (λ p. slice_get states.now.keys q ≡ Some p) }
 {

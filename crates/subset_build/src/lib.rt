@@ -7,7 +7,11 @@ mod fault;
 mod letters;
 mod limit;
 mod put;
+mod rows;
+mod table;
 
 pub use automaton::Automaton;
 pub use family::build;
 pub use fault::BuildFault;
+pub use rows::build_table;
+pub use table::Table;

@@ -15,7 +15,7 @@ const MOST_CELLS: usize = 8_388_608;
 pub fn limit_of(nfa: &Nfa, given: u32) -> u32
     ensures { result ≡ effective_limit (alphabet nfa.now) given }
 {
-    let by_sets = MOST_CELLS / nfa.words().max(1);
+    let by_sets = MOST_CELLS / nfa.words();
     let by_rows = MOST_CELLS / width(nfa);
     given.min(MOST_STATES).min(by_sets.min(by_rows) as u32)
 }

@@ -1,7 +1,8 @@
 //! The numbers of states.
-ghost use Rattle.std.specs.Prelude.{◌≡◌, ℕ, ◌≤◌, Some, slice_get, length, OnOk, IfErr, IfOk};
+ghost use Rattle.std.specs.Prelude.{◌≡◌, ℕ, ◌≤◌, ◌<◌, Some, slice_get, length, OnOk, IfErr, IfOk};
 ghost use Rattle.position_nfa.specs.Views.{alphabet};
-ghost use Rattle.subset_build.specs.Families.{numbered, IsFull};
+ghost use Rattle.position_nfa.specs.Families.{numbered};
+ghost use Rattle.subset_build.specs.Families.{IsFull};
 
 use crate::fault::BuildFault;
 use indexmap::IndexSet;
@@ -24,6 +25,7 @@ pub fn put(
     ensures ok { OnOk result (states.new.keys ≡ numbered (alphabet nfa.now) states.old.keys pair.now) }
     ensures within { OnOk result (length states.new.keys ≤ limit) }
     ensures number { IfOk result (λ n. slice_get states.new.keys n ≡ Some pair.now) }
+    ensures below { IfOk result (λ n. n < length states.new.keys) }
     ensures too_large { IfErr result (λ e. (l : ℕ) → e ≡ BuildFault.TooLarge l → (l ≡ limit) × IsFull states.old.keys limit pair.now) }
 {
     if let Some(number) = states.get_index_of(pair) {

@@ -30,6 +30,7 @@ pub fn told_of_words(alloc: Global, words: &str) -> Result<Option<String>, Alloc
     let told = match read_command(&words) {
         None => String::from_str(alloc, "none")?,
         Some(Command::Import { source, name }) => format!(in alloc; "{source} {name}")?,
+        Some(Command::Size { wheel }) => format!(in alloc; "{wheel}")?,
         Some(
             Command::Replay {
                 model,
@@ -40,6 +41,19 @@ pub fn told_of_words(alloc: Global, words: &str) -> Result<Option<String>, Alloc
             let (time, crank) = (shown(options.time), shown(options.crank));
             let (cam1, cam2) = (shown(options.cam1), shown(options.cam2));
             format!(in alloc; "{model} {capture}, {time} {crank} {cam1} {cam2}")?
+        }
+        Some(
+            Command::Check {
+                wheel,
+                capture,
+                report,
+                cert,
+                options,
+            },
+        ) => {
+            let (time, crank) = (shown(options.time), shown(options.crank));
+            let (cam1, cam2) = (shown(options.cam1), shown(options.cam2));
+            format!(in alloc; "{wheel} {capture} {report} {cert}, {time} {crank} {cam1} {cam2}")?
         }
     };
     Ok(Some(told))

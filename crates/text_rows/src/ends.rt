@@ -8,7 +8,7 @@ use wheel_pattern::{Key, PatternFault, TableFault};
 use wheel_types::{Channel, WheelFault};
 
 /// The causes that rows give by their numbers here.
-const CAUSES: [Cause; 18] = [
+const CAUSES: [Cause; 21] = [
     Cause::Usage,
     Cause::Refused(Refusal::Wheel(NoWheel {
         fault: PatternFault::NotToml,
@@ -48,6 +48,9 @@ const CAUSES: [Cause; 18] = [
     Cause::WriteFault,
     Cause::Memory,
     Cause::Limit(Limit::File),
+    Cause::Limit(Limit::States { limit: 65535 }),
+    Cause::Refused(Refusal::Report { at: 1 }),
+    Cause::Refused(Refusal::Certificate { at: u64::MAX }),
 ];
 
 /// The end that a number gives; a dash is the end of a run that is done.

@@ -1,12 +1,24 @@
 -- What the sections of a dump's header declare.
-use Rattle.std.specs.Prelude.{◌≡◌, ℕ, ◌-◌, Bool, true, false, ◌||◌, ◌&&◌, not, ◌==◌, if◌then◌else◌, List, [], ◌∷◌, ◌++◌, length, take, Option, Some, None, codes, is_some}
+use Rattle.std.specs.Prelude.{ℕ, ◌-◌, Bool, true, false, ◌||◌, ◌&&◌, not, ◌==◌, if◌then◌else◌, List, [], ◌∷◌, ◌++◌, length, take, Option, Some, None, codes, is_some}
 use Rattle.std.specs.List.{list_all, flat_map}
-use Rattle.vcd_header.specs.declared.header.Header.{Header}
 use Rattle.vcd_header.specs.declared.section.Section.{Section}
 use Rattle.vcd_header.specs.declared.section.Section.TheVariants as section
 use Rattle.capture_core.specs.Numerals.{is_digit}
 use Rattle.vcd_header.specs.Texts.{same, is_end, is_keyword, is_code_byte}
 use Rattle.vcd_header.specs.Timescales.{scale_of}
+
+-- a variable: its identifier code, its name, the scopes' names with its own, and whether it is no single bit
+pub record Var : Type 0 where
+  pub code : List ℕ
+  pub name : List ℕ
+  pub path : List ℕ
+  pub wide : Bool
+
+-- what sections declare: femtoseconds for a unit of time, the open scopes with the outermost first, and the variables in order
+pub record Header : Type 0 where
+  pub scale : Option ℕ
+  pub scopes : List (List ℕ)
+  pub vars : List Var
 
 -- nothing is declared yet
 abbrev pub empty_header : Header
@@ -80,8 +92,3 @@ with_section h section.Upscope words = Some (without_scope h)
 with_section h section.Variable words = with_var h words
 with_section h section.EndDefinitions words = Some h
 with_section h section.Other words = Some h
-
--- a header becomes what is due, or nothing is due and the answer says so
-abbrev pub Becomes : Bool → Option Header → Header → Type 0
-Becomes true due h = due ≡ Some h
-Becomes false due h = due ≡ None

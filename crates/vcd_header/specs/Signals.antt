@@ -8,10 +8,10 @@ use Rattle.capture_core.specs.declared.capture.Names.{Names}
 use Rattle.capture_core.specs.declared.capture.VcdFault.{VcdFault}
 use Rattle.capture_core.specs.declared.capture.VcdFault.TheVariants.{NoSuchSignal, TwoSignals, WideSignal}
 use Rattle.capture_core.specs.declared.capture.Watch.{Watch}
-use Rattle.vcd_header.specs.declared.header.Var.{Var}
 use Rattle.vcd_header.specs.declared.signals.Signals.{Signals}
 use Rattle.vcd_header.specs.declared.signals.Missing.{Missing}
 use Rattle.vcd_header.specs.declared.signals.Missing.TheVariants.{NoneHasIt, TwoCodes, TooWide}
+use Rattle.vcd_header.specs.Headers.{Var}
 use Rattle.vcd_header.specs.Texts.{same}
 
 -- the name of a cam that is watched
@@ -46,13 +46,14 @@ name_fault c NoneHasIt = NoSuchSignal c
 name_fault c TwoCodes = TwoSignals c
 name_fault c TooWide = WideSignal c
 
+abbrev pub some_code : Result (List ℕ) Missing → Result (Option (List ℕ)) Missing
+some_code (Ok code) = Ok (Some code)
+some_code (Err m) = Err m
+
 -- the code of a channel that is watched
 abbrev pub code_if : Option (List ℕ) → List Var → Result (Option (List ℕ)) Missing
 code_if None vars = Ok None
-code_if (Some name) vars = some_code (code_of vars name) where
-  some_code : Result (List ℕ) Missing → Result (Option (List ℕ)) Missing
-  some_code (Ok code) = Ok (Some code)
-  some_code (Err m) = Err m
+code_if (Some name) vars = some_code (code_of vars name)
 
 -- all the codes, or the first fault of crank and cams
 abbrev pub all_found : Result (List ℕ) Missing → Result (Option (List ℕ)) Missing → Result (Option (List ℕ)) Missing → Result Signals VcdFault

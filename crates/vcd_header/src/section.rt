@@ -1,8 +1,9 @@
 //! The sections of a header, and which of their words are kept.
 ghost use Rattle.std.specs.Prelude.{◌≡◌, ◌++◌, ◌∷◌, [], List as Items, ℕ, OnOk, length};
+ghost use Rattle.std.specs.List.{flat_map};
 ghost use Rattle.vcd_header.specs.Headers as headers;
 ghost use Rattle.vcd_header.specs.Texts as texts;
-ghost use Rattle.vcd_header.specs.Words.{kept_words, is_kept as is_kept_word};
+ghost use Rattle.vcd_header.specs.Words.{front_word, kept_words, is_kept as is_kept_word};
 
 use crate::bytes::all_code_bytes;
 use capture_core::all_digits;
@@ -55,14 +56,35 @@ fn is_kept(section: Section, words: usize) -> bool
     ensures { result ≡ is_kept_word section words }
 {
     match section {
-        Section::Timescale => true,
         Section::Scope => words < 2,
         Section::Variable => words < 4,
-        Section::Upscope | Section::EndDefinitions | Section::Other => false,
+        Section::Timescale | Section::Upscope | Section::EndDefinitions | Section::Other => false,
     }
 }
 
-/// Adds a word of the section to those that are kept, where its end needs it.
+/// Takes out the word of a timescale that is kept, which is empty where there is none.
+fn front_of(alloc: Global, words: &mut List<List<u8>>) -> List<u8>
+    ensures { (all : Items (Items ℕ)) → words.old ≡ front_word all → (flat_map (λ w. w) (front_word all) ≡ result) × (words.new ≡ []) }
+{
+    match words.items.pop() {
+        Some(front) => front,
+        None => List::from_vec(Vec::new(alloc)),
+    }
+}
+
+/// Adds a word of a timescale to the one that is kept, which is the first six bytes of all.
+fn keep_front(alloc: Global, words: &mut List<List<u8>>, text: &[u8]) -> Result<(), AllocError>
+    ensures ok { OnOk result ((all : Items (Items ℕ)) → words.old ≡ front_word all → words.new ≡ front_word (all ++ text.now ∷ [])) }
+{
+    let mut front = front_of(alloc, words);
+    let room = 6usize.saturating_sub(front.as_slice().len());
+    let count = room.min(text.len());
+    front.items.extend_from_slice(&text[..count])?;
+    words.items.push(front)?;
+    Ok(())
+}
+
+/// Adds a word of the section to those that are kept, where its end needs it. Of a timescale six bytes are kept.
 pub fn keep_word(
     alloc: Global,
     words: &mut List<List<u8>>,
@@ -71,6 +93,9 @@ pub fn keep_word(
 ) -> Result<(), AllocError>
     ensures ok { OnOk result ((all : Items (Items ℕ)) → words.old ≡ kept_words section all → words.new ≡ kept_words section (all ++ text.now ∷ [])) }
 {
+    if section == Section::Timescale {
+        return keep_front(alloc, words, text);
+    }
     if is_kept(section, words.items.len()) {
         let word = List::from_slice(alloc, text)?;
         words.items.push(word)?;

@@ -1,9 +1,12 @@
 //! The watched signals of a dump, found by their names.
 ghost use Rattle.std.specs.Prelude.{◌≡◌, Ok, Err, IfOk, MatchResult};
+ghost use Rattle.vcd_header.specs.Headers.{Header};
+ghost use Rattle.vcd_header.specs.Sightings.{SumsUp, answer_if, answer_of};
 ghost use Rattle.vcd_header.specs.Signals as signals;
 ghost use Rattle.vcd_header.specs.declared.signals.Missing.{Missing as AMissing};
 
-use crate::header::Var;
+use crate::header::HeaderState;
+use crate::sighting::Sighting;
 use capture_core::{Names, VcdFault, Watch};
 use std::alloc::{AllocError, Global};
 use wheel_types::{Channel, Keep, List};
@@ -44,33 +47,14 @@ pub fn wanted_by(alloc: Global, names: &Names, watch: Watch) -> Result<Signals, 
     Ok(Signals { crank, cam1, cam2 })
 }
 
-/// The variable has the name or the path.
-fn is_named(name: &[u8], var: &Var) -> bool
-    ensures { result ≡ signals.is_named name.now var.now }
+/// The one code of the signal of which this was seen.
+fn code_of(seen: &Sighting) -> Result<&List<u8>, Missing>
+    ensures { MatchResult result (λ code. answer_of seen.now ≡ Ok code.now) (λ m. answer_of seen.now ≡ Err m) }
 {
-    var.name.as_slice() == name || var.path.as_slice() == name
-}
-
-/// The code of the signal with this name.
-fn code_of<'a>(declared: &'a [Var], name: &[u8]) -> Result<&'a List<u8>, Missing>
-    ensures { MatchResult result (λ code. signals.code_of declared.now name.now ≡ Ok code.now) (λ m. signals.code_of declared.now name.now ≡ Err m) }
-{
-    let mut first: Option<&List<u8>> = None;
-    let mut is_same = true;
-    let mut is_wide = false;
-    'vars: for var in declared {
-        if is_named(name, var) {
-            match first {
-                None => first = Some(&var.code),
-                Some(code) => is_same = is_same && var.code.as_slice() == code.as_slice(),
-            }
-            is_wide = is_wide || var.wide;
-        }
-    }
-    match first {
+    match &seen.code {
         None => Err(Missing::NoneHasIt),
-        Some(_) if !is_same => Err(Missing::TwoCodes),
-        Some(_) if is_wide => Err(Missing::TooWide),
+        Some(_) if seen.is_twofold => Err(Missing::TwoCodes),
+        Some(_) if seen.is_wide => Err(Missing::TooWide),
         Some(code) => Ok(code),
     }
 }
@@ -85,16 +69,16 @@ fn name_fault(channel: Channel, missing: Missing) -> VcdFault
     }
 }
 
-/// The code of the signal with this name, or the channel's fault.
+/// The code of the channel's signal, or the channel's fault.
 fn found(
     alloc: Global,
-    declared: &[Var],
+    seen: &Sighting,
     channel: Channel,
-    name: &[u8],
 ) -> Result<Result<List<u8>, VcdFault>, AllocError>
-    ensures { IfOk result (λ r. MatchResult r (λ code. signals.code_of declared.now name.now ≡ Ok code) (λ f. (m : AMissing) × (signals.code_of declared.now name.now ≡ Err m) × (f ≡ signals.name_fault channel m))) }
+    ensures { IfOk result (λ r. MatchResult r (λ code. answer_of seen.now ≡ Ok code)
+        (λ f. (m : AMissing) × (answer_of seen.now ≡ Err m) × (f ≡ signals.name_fault channel m))) }
 {
-    match code_of(declared, name) {
+    match code_of(seen) {
         Ok(code) => Ok(Ok(List::from_slice(alloc, code.as_slice())?)),
         Err(missing) => Ok(Err(name_fault(channel, missing))),
     }
@@ -103,40 +87,52 @@ fn found(
 /// The same for a channel that may not be watched.
 fn found_if(
     alloc: Global,
-    declared: &[Var],
+    seen: &Sighting,
     channel: Channel,
     name: &Option<List<u8>>,
 ) -> Result<Result<Option<List<u8>>, VcdFault>, AllocError>
-    ensures { IfOk result (λ r. MatchResult r (λ code. signals.code_if name.now declared.now ≡ Ok code) (λ f. (m : AMissing) × (signals.code_if name.now declared.now ≡ Err m) × (f ≡ signals.name_fault channel m))) }
+    ensures { IfOk result (λ r. MatchResult r (λ code. answer_if name.now seen.now ≡ Ok code)
+        (λ f. (m : AMissing) × (answer_if name.now seen.now ≡ Err m) × (f ≡ signals.name_fault channel m))) }
 {
-    let Some(name) = name else {
+    if name.is_none() {
         return Ok(Ok(None));
-    };
-    match found(alloc, declared, channel, name.as_slice())? {
+    }
+    match found(alloc, seen, channel)? {
         Ok(code) => Ok(Ok(Some(code))),
         Err(fault) => Ok(Err(fault)),
     }
 }
 
-/// The codes of the wanted signals.
-pub fn signals_of(
+/// The codes of what was seen, or the first fault of crank and cams.
+fn all_found(
     alloc: Global,
     wanted: &Signals,
-    declared: &[Var],
+    header: &HeaderState,
 ) -> Result<Result<Signals, VcdFault>, AllocError>
-    ensures { IfOk result (λ r. r ≡ signals.signals_of wanted.now declared.now) }
+    ensures { IfOk result (λ r. r ≡ signals.all_found (answer_of header.now.crank) (answer_if wanted.now.cam1 header.now.cam1) (answer_if wanted.now.cam2 header.now.cam2)) }
 {
-    let crank = match found(alloc, declared, Channel::Crank, wanted.crank.as_slice())? {
+    let crank = match found(alloc, &header.crank, Channel::Crank)? {
         Ok(code) => code,
         Err(fault) => return Ok(Err(fault)),
     };
-    let cam1 = match found_if(alloc, declared, Channel::Cam1, &wanted.cam1)? {
+    let cam1 = match found_if(alloc, &header.cam1, Channel::Cam1, &wanted.cam1)? {
         Ok(code) => code,
         Err(fault) => return Ok(Err(fault)),
     };
-    let cam2 = match found_if(alloc, declared, Channel::Cam2, &wanted.cam2)? {
+    let cam2 = match found_if(alloc, &header.cam2, Channel::Cam2, &wanted.cam2)? {
         Ok(code) => code,
         Err(fault) => return Ok(Err(fault)),
     };
     Ok(Ok(Signals { crank, cam1, cam2 }))
+}
+
+/// The codes of the wanted signals among the variables that the header declares.
+pub fn signals_of(
+    alloc: Global,
+    wanted: &Signals,
+    header: &HeaderState,
+) -> Result<Result<Signals, VcdFault>, AllocError>
+    ensures { IfOk result (λ r. (h : Header) → SumsUp wanted.now header.now h → r ≡ signals.signals_of wanted.now h.vars) }
+{
+    all_found(alloc, wanted, header)
 }

@@ -4,13 +4,11 @@ use Rattle.std.specs.Prelude.{nat_lt, int_lt, pos, Result, Ok, Err}
 use Rattle.std.specs.List.{list_all}
 use Rattle.capture_core.specs.declared.capture.VcdFault.{VcdFault}
 use Rattle.capture_core.specs.declared.capture.VcdFault.TheVariants.{BadToken, NoTimescale, TimeFalls, TimeTooLarge}
-use Rattle.vcd_header.specs.declared.header.Header.{Header}
 use Rattle.vcd_header.specs.declared.section.Section.{Section}
-use Rattle.vcd_header.specs.declared.header.Var.{Var}
 use Rattle.vcd_header.specs.declared.signals.Signals.{Signals}
 use Rattle.vcd_reader.specs.Changes.{after_change, at_later, at_time, change_token, code_token, other_token, real_token, time_token, vector_token}
 use Rattle.vcd_reader.specs.Dumps.{after_text}
-use Rattle.vcd_header.specs.Headers.{section_begun, with_section, word_fits}
+use Rattle.vcd_header.specs.Headers.{Header, Var, section_begun, with_section, word_fits}
 use Rattle.vcd_reader.specs.Readings.{Body, Reading, between, inside, changes, wanting, skipping, refused, between_if, changes_if, first_body, header_ended, inside_if, is_last, section_token}
 use Rattle.vcd_header.specs.Signals.{signals_of}
 use Rattle.capture_core.specs.Numerals.{is_digit, number}

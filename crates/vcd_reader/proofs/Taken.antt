@@ -5,7 +5,7 @@ use Rattle.wheel_types.specs.declared.instant.Instant.{Instant}
 use Rattle.capture_core.specs.declared.capture.VcdFault.{VcdFault}
 use Rattle.capture_core.specs.declared.capture.Watch.{Watch}
 use Rattle.capture_core.specs.Stamps.{instants_of}
-use Rattle.vcd_header.specs.declared.header.Header.{Header}
+use Rattle.vcd_header.specs.declared.header.HeaderState.{HeaderState}
 use Rattle.vcd_reader.specs.declared.changes.Changes.{Changes}
 use Rattle.vcd_reader.specs.declared.phase.Phase.{Phase}
 use Rattle.vcd_reader.specs.declared.phase.Phase.TheVariants as phase
@@ -29,17 +29,17 @@ brings_taken watch handed waiting phase.Skipping c (skipping b) k = k.waits.all
 brings_taken watch handed waiting (phase.Refused f) c (refused closed due) k = k.1.all
 brings_taken watch handed waiting p c r k = absurd k
 
-pub reads_taken : (watch : Watch) (handed waiting : List Instant) (st : Stage) (h : Header) (words : List (List ℕ)) (c : Changes) (r : Reading)
-    → ReadsAt watch handed waiting st h words c r → instants_of watch (closed_of r) ≡ handed ++ waiting
-reads_taken watch handed waiting Level h words c (between due) k = sym k.1.none
-reads_taken watch handed waiting (Inside section) h words c (inside due s due_words) k = sym k.3.none
-reads_taken watch handed waiting (Past p) h words c r k = brings_taken watch handed waiting p c r k
-reads_taken watch handed waiting st h words c r k = absurd k
+pub reads_taken : (wanted : Signals) (watch : Watch) (handed waiting : List Instant) (st : Stage) (h : HeaderState) (words : List (List ℕ)) (c : Changes) (r : Reading)
+    → ReadsAt wanted watch handed waiting st h words c r → instants_of watch (closed_of r) ≡ handed ++ waiting
+reads_taken wanted watch handed waiting Level h words c (between due) k = sym k.1.none
+reads_taken wanted watch handed waiting (Inside section) h words c (inside due s due_words) k = sym k.3.none
+reads_taken wanted watch handed waiting (Past p) h words c r k = brings_taken watch handed waiting p c r k
+reads_taken wanted watch handed waiting st h words c r k = absurd k
 
 -- those of the bytes that a stream stands for
 pub all_taken : (wanted : Signals) (watch : Watch) (handed : List Instant) (s : Stream) (bytes : List ℕ) → StandsFor wanted watch handed s bytes
     → instants_of watch (so_far wanted bytes).closed ≡ handed ++ s.waiting
-all_taken wanted watch handed s bytes stands = reads_taken watch handed s.waiting s.machine.stage s.machine.header s.machine.words s.machine.changes (reading_of wanted bytes) stands.tokens
+all_taken wanted watch handed s bytes stands = reads_taken s.machine.wanted watch handed s.waiting s.machine.stage s.machine.header s.machine.words s.machine.changes (reading_of wanted bytes) stands.tokens
 
 -- after a fault a stream stands for all that is fed
 pub stands_refused : (wanted : Signals) (watch : Watch) (handed : List Instant) (s : Stream) (bytes more : List ℕ) (fault : VcdFault) → StandsFor wanted watch handed s bytes

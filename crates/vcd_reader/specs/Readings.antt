@@ -4,12 +4,10 @@ use Rattle.capture_core.specs.declared.capture.Stamp.{Stamp}
 use Rattle.capture_core.specs.declared.capture.VcdFault.{VcdFault}
 use Rattle.capture_core.specs.declared.capture.VcdFault.TheVariants.{NoTimescale, BadToken}
 use Rattle.capture_core.specs.Stamps.{nothing}
-use Rattle.vcd_header.specs.declared.header.Var.{Var}
-use Rattle.vcd_header.specs.declared.header.Header.{Header}
 use Rattle.vcd_header.specs.declared.section.Section.{Section}
 use Rattle.vcd_header.specs.declared.section.Section.TheVariants as section
 use Rattle.vcd_header.specs.declared.signals.Signals.{Signals}
-use Rattle.vcd_header.specs.Headers.{section_begun, word_fits, with_section}
+use Rattle.vcd_header.specs.Headers.{Header, Var, section_begun, word_fits, with_section}
 use Rattle.vcd_header.specs.Signals.{signals_of}
 use Rattle.vcd_header.specs.Texts.{is_end}
 

@@ -12,7 +12,8 @@ use crate::waiting::Waiting;
 use capture_core::{VcdFault, Watch};
 use std::alloc::{AllocError, Global};
 use vcd_header::{
-    Header, Section, Signals, is_end, keep_word, section_begun, signals_of, with_section, word_fits,
+    HeaderState, Section, Signals, is_end, keep_word, section_begun, signals_of, with_section,
+    word_fits,
 };
 use wheel_types::List;
 
@@ -20,7 +21,7 @@ use wheel_types::List;
 #[derive(Drop)]
 pub struct Machine {
     pub wanted: Signals,
-    pub header: Header,
+    pub header: HeaderState,
     pub words: List<List<u8>>,
     pub changes: Changes,
     pub stage: Stage,
@@ -36,6 +37,7 @@ impl Machine {
     ghost use Rattle.std.specs.Prelude.{◌≡◌, ◌++◌, [], List, OnOk, OnErr};
     ghost use Rattle.vcd_reader.specs.Dumps as dump;
     ghost use Rattle.vcd_header.specs.Headers as headers;
+    ghost use Rattle.vcd_header.specs.Sightings.{SumsUp};
     ghost use Rattle.vcd_reader.specs.Readings as reading;
     ghost use Rattle.vcd_reader.specs.Reads.{ForReading, Reads};
     ghost use Rattle.capture_core.specs.declared.capture.Watch.{Watch as AWatch};
@@ -47,7 +49,7 @@ impl Machine {
     {
         Machine {
             wanted,
-            header: Header::new(alloc),
+            header: HeaderState::new(alloc),
             words: List::from_vec(Vec::new(alloc)),
             changes: Changes::new(alloc, watch),
             stage: Stage::Level,
@@ -70,14 +72,14 @@ impl Machine {
     /// The header ends.
     fn end_header(&mut self, alloc: Global) -> Result<(), AllocError>
         ensures ok { OnOk result ((watch : AWatch) (handed waiting : List AnInstant) → handed ++ waiting ≡ [] → IsFresh watch self.old.changes
-            → Reads watch handed waiting self.new (reading.header_ended self.old.wanted self.old.header.vars self.old.header.scale)) }
+            → (h : headers.Header) → SumsUp self.old.wanted self.old.header h → Reads watch handed waiting self.new (reading.header_ended self.old.wanted h.vars h.scale)) }
         ensures wanted { self.new.wanted ≡ self.old.wanted }
     {
         let Some(scale) = self.header.scale else {
             self.stage = Stage::Past(Phase::Refused(VcdFault::NoTimescale));
             return Ok(());
         };
-        match signals_of(alloc, &self.wanted, self.header.vars.as_slice())? {
+        match signals_of(alloc, &self.wanted, &self.header)? {
             Ok(signals) => {
                 self.changes.begin(scale, signals);
                 self.stage = Stage::Past(Phase::Between);
@@ -103,7 +105,13 @@ impl Machine {
             if section == Section::EndDefinitions {
                 return self.end_header(alloc);
             }
-            let fits = with_section(alloc, &mut self.header, section, self.words.as_slice())?;
+            let fits = with_section(
+                alloc,
+                &self.wanted,
+                &mut self.header,
+                section,
+                self.words.as_slice(),
+            )?;
             self.stage = if fits { Stage::Level } else { bad(at) };
         } else if word_fits(section, self.words.items.len(), text) {
             keep_word(alloc, &mut self.words, section, text)?;

@@ -1,12 +1,12 @@
 -- What follows of a run from what its work may come to.
-use Rattle.std.proofs.Common.{◌≡◌, ℕ, ◌⊎◌, inl, inr, List, Option, None, Some, IfSome, Result, Ok, Err, refl, sym, ◌∙◌, subst, ap}
+use Rattle.std.proofs.Common.{◌≡◌, ℕ, ◌⊎◌, inl, inr, List, Option, None, Some, IfSome, Result, Ok, Err, refl, sym, ◌∙◌, ap}
 use Rattle.std.specs.Prelude.{IsTrue}
 use Rattle.shelf_traits.specs.Count.{Rose}
 use Rattle.shelf_traits.specs.Shelf.{View}
 use Rattle.capture_core.specs.declared.capture.End.{End}
 use Rattle.capture_core.specs.declared.capture.End.TheVariants.{Clean, Csv, Vcd}
 use Rattle.command_words.specs.Options.{Options}
-use Rattle.command_words.specs.Words.{Order, Replay, Import}
+use Rattle.command_words.specs.Words.{Order, Replay, Import, Size, Check}
 use Rattle.run_ends.specs.declared.cause.Done.{Done}
 use Rattle.run_ends.specs.declared.cause.Done.TheVariants as done
 use Rattle.run_ends.specs.declared.cause.Cause.{Cause}
@@ -15,24 +15,29 @@ use Rattle.run_ends.specs.declared.status.Status.{Status}
 use Rattle.run_ends.specs.declared.status.Status.TheVariants as status
 use Rattle.run_ends.specs.Statuses.{status_of}
 use Rattle.run_ends.specs.Finishing.{HasNoted, FailedNote, notes_text}
-use Rattle.run_ends.specs.Works.{Work, Reads, Writes, HandsOn, StopsWrite, stopped}
+use Rattle.run_ends.specs.Works.{Work, Reads, Judges, Writes, StopsWrite}
 use Rattle.run_ends.specs.Serving.{Stream, Ran, NoneFailed, WentOut}
 use Rattle.run_files.specs.Causes.{FileGives, ModelGives, SourceGives, ended_by}
 use Rattle.run_files.specs.Files.{HasPlacedWheel, HasTable}
-use Rattle.wheelsync.specs.Complete.{AreReady}
+use Rattle.wheelsync.specs.Complete.{AreReady, IsDenied, IsDue}
+use Rattle.check_command.specs.Check.{IsCheck}
+use Rattle.check_command.proofs.Answered.{EndsIn, check_ends, check_not_usage, valid_ends, invalid_ends}
 use Rattle.run_files.proofs.Ready.{model_gives_none, file_gives_none, source_gives_none, file_has_one_wheel, file_has_one_table}
-use Rattle.wheelsync.specs.Captures.{HasNamedCapture}
-use Rattle.wheelsync.proofs.FileNames.{file_has_one_capture}
+use Rattle.named_captures.specs.Captures.{HasNamedCapture}
+use Rattle.named_captures.proofs.FileNames.{file_has_one_capture}
 use Rattle.run_ends.proofs.Noting.{due_or_memory}
-use Rattle.run_ends.proofs.Completing.{reads_end, writes_end, hands_end, reads_ready, open_not_usage, read_not_usage, write_not_usage}
+use Rattle.run_ends.proofs.Completing.{reads_end, judges_end, writes_end, hands_end, reads_ready, judges_ready, open_not_usage, read_not_usage, judge_not_usage, write_not_usage}
 use Rattle.wheelsync.specs.Replay.{IsReplay}
 use Rattle.wheelsync.specs.Import.{IsImport}
+use Rattle.table_commands.specs.States.{HasFewStates, FamilyGives}
+use Rattle.table_commands.specs.Size.{IsSize, IsSized}
+use Rattle.table_commands.proofs.OneFamily.{family_gives_none}
 use Rattle.wheelsync.specs.Commands.{IsWork}
 use Rattle.wheelsync.proofs.Endings.{IsReported, IsSlotsLine}
 
 -- the work is done, or wanted memory, or a write failed
 abbrev pub IsSettled : Result Done Cause → Type 0
-IsSettled end = (end ≡ Ok done.Whole) ⊎ ((end ≡ Err cause.Memory) ⊎ (end ≡ Err cause.WriteFault))
+IsSettled end = EndsIn done.Whole end
 
 settled_stop : (e : Cause) → StopsWrite e → IsSettled (Err e)
 settled_stop cause.WriteFault s = inr (inr refl)
@@ -60,13 +65,36 @@ import_settles v source name work told steady (slots, h) r =
     (source_gives_none v.file source name slots h) (λ other k. file_has_one_table v.file source name other slots k h) (inr (inl refl))
     (λ last p. writes_end (IsSlotsLine slots) IsSettled last (λ text end d. inl d.1) settled_stop p) r
 
+size_settles : (v : View) (wheel : List ℕ) (work : Work) → IsTrue v.tells → IsTrue v.steady → AreReady v.file (Size wheel) → IsSize v wheel work → IsSettled work.end
+size_settles v wheel work told steady (w, h) r =
+    reads_ready v wheel (ModelGives v.file wheel) (HasPlacedWheel v.file wheel) (λ w. Judges (FamilyGives w) (HasFewStates w) (Writes (IsSized w))) IsSettled
+    h.wheel_file.wheel.bytes w work told steady h.wheel_file.wheel.holds.there (model_gives_none v.file wheel w h.wheel_file)
+    (λ u k. file_has_one_wheel v.file wheel u w k.wheel h.wheel_file.wheel) (inr (inl refl))
+    (λ rest n.
+    judges_ready (FamilyGives w) (HasFewStates w) (Writes (IsSized w)) IsSettled rest (family_gives_none w h.few) (inr (inl refl))
+    (λ p. writes_end (IsSized w) IsSettled rest (λ text end d. inl d.1.1.1) settled_stop p) n)
+    r
+
 settles : (v : View) (order : Order) (work : Work) → IsTrue v.tells → IsTrue v.steady → AreReady v.file order → IsWork v (Some order) work → IsSettled work.end
 settles v (Replay m c o) work told steady ready r = hands_end (IsReplay v m c o) IsSettled work (λ rest n. replay_settles v m c o rest told steady ready n) (inr (inr refl)) r
 settles v (Import source name) work told steady ready r = hands_end (IsImport v source name) IsSettled work (λ rest n. import_settles v source name rest told steady ready n) (inr (inr refl)) r
+settles v (Size wheel) work told steady ready r = hands_end (IsSize v wheel) IsSettled work (λ rest n. size_settles v wheel rest told steady ready n) (inr (inr refl)) r
+settles v (Check wheel capture report cert o) work told steady (w, (c, (rs, (cs, (h, valid))))) r =
+    hands_end (IsCheck v wheel capture report cert o) IsSettled work
+    (λ rest n. check_ends done.Whole v wheel capture report cert o w c rs cs rest told steady h (valid_ends w c rs cs valid) n) (inr (inr refl)) r
 
-by_settled : (v w : View) (allows : Work → Type 0) (out new notes after : Stream) (s : Status) → (r : Ran allows None v w out new notes after s) → IsTrue v.steady
-    → NoneFailed out new → NoneFailed notes after → IsSettled r.served.work.end → (s ≡ status.Done) ⊎ (s ≡ status.Memory)
-by_settled v w allows out new notes after s r steady a b settled = by settled
+denied : (v : View) (order : Order) (work : Work) → IsTrue v.tells → IsTrue v.steady → IsDenied v.file order → IsWork v (Some order) work → EndsIn done.No work.end
+denied v (Check wheel capture report cert o) work told steady (w, (c, (rs, (cs, (h, not_valid))))) r =
+    hands_end (IsCheck v wheel capture report cert o) (EndsIn done.No) work
+    (λ rest n. check_ends done.No v wheel capture report cert o w c rs cs rest told steady h (invalid_ends w c rs cs not_valid) n) (inr (inr refl)) r
+denied v (Replay m c o) work told steady d r = absurd d
+denied v (Import source name) work told steady d r = absurd d
+denied v (Size wheel) work told steady d r = absurd d
+
+-- where no write fails the status is that of the work that is done
+by_ended : (x : Done) (v w : View) (allows : Work → Type 0) (out new notes after : Stream) (s : Status) → (r : Ran allows None v w out new notes after s) → IsTrue v.steady
+    → NoneFailed out new → NoneFailed notes after → EndsIn x r.served.work.end → (s ≡ status_of (Ok x)) ⊎ (s ≡ status.Memory)
+by_ended x v w allows out new notes after s r steady a b settled = by settled
   where
     not_noted : NoneFailed notes after → FailedNote notes.faults after.faults (IsTrue notes.steady) → ⊥
     not_noted (inl still) f = f.unsteady still
@@ -84,21 +112,23 @@ by_settled v w allows out new notes after s r steady a b settled = by settled
     by_due t is (inl same) = inl (same ∙ is)
     by_due t is (inr m) = inr m
 
-    memory_only : (s ≡ status.Memory) ⊎ (s ≡ status.Memory) → (s ≡ status.Done) ⊎ (s ≡ status.Memory)
+    memory_only : (s ≡ status.Memory) ⊎ (s ≡ status.Memory) → (s ≡ status_of (Ok x)) ⊎ (s ≡ status.Memory)
     memory_only (inl m) = inr m
     memory_only (inr m) = inr m
 
-    by : IsSettled r.served.work.end → (s ≡ status.Done) ⊎ (s ≡ status.Memory)
-    by (inl is) = by_due status.Done (ap status_of (r.served.ends ∙ is)) due
+    by : EndsIn x r.served.work.end → (s ≡ status_of (Ok x)) ⊎ (s ≡ status.Memory)
+    by (inl is) = by_due (status_of (Ok x)) (ap status_of (r.served.ends ∙ is)) due
     by (inr (inl is)) = memory_only (by_due status.Memory (ap status_of (r.served.ends ∙ is)) due)
     by (inr (inr is)) = let fault = r.served.ends ∙ is in absurd (not_written a (r.served.write fault) fault)
 
 -- a run is complete
 pub completes : (v w : View) (order : Option Order) (out new notes after : Stream) (s : Status) → Ran (IsWork v order) None v w out new notes after s → IsTrue v.tells → IsTrue v.steady
-    → NoneFailed out new → NoneFailed notes after → IfSome order (λ order. AreReady v.file order → (s ≡ status.Done) ⊎ (s ≡ status.Memory))
+    → NoneFailed out new → NoneFailed notes after → IfSome order (λ order. IsDue v.file order s)
 completes v w None out new notes after s r told steady a b = tt
-completes v w (Some order) out new notes after s r told steady a b =
-    λ ready. by_settled v w (IsWork v (Some order)) out new notes after s r steady a b (settles v order r.served.work told steady ready r.served.allowed)
+completes v w (Some order) out new notes after s r told steady a b = (
+  λ ready. by_ended done.Whole v w (IsWork v (Some order)) out new notes after s r steady a b (settles v order r.served.work told steady ready r.served.allowed),
+  λ no. by_ended done.No v w (IsWork v (Some order)) out new notes after s r steady a b (denied v order r.served.work told steady no r.served.allowed),
+)
 
 -- ---- usage
 
@@ -127,11 +157,26 @@ import_not_usage v source name work r =
     (λ slots last a p. writes_end (IsSlotsLine slots) (λ end. end ≡ Err cause.Usage → ⊥) last (λ text end d is. let no : ◌≡◌ {A = Result Done Cause} (Ok done.Whole) (Err cause.Usage) = sym d.1 ∙ is in cc) (λ e s. not_cause e (write_not_usage e s)) p)
     r
 
+not_done_for_usage : (end : Result Done Cause) → end ≡ Ok done.Whole → end ≡ Err cause.Usage → ⊥
+not_done_for_usage end whole is = let no : ◌≡◌ {A = Result Done Cause} (Ok done.Whole) (Err cause.Usage) = sym whole ∙ is in cc
+
+size_not_usage : (v : View) (wheel : List ℕ) (work : Work) → IsSize v wheel work → work.end ≡ Err cause.Usage → ⊥
+size_not_usage v wheel work r =
+    reads_end v wheel (ModelGives v.file wheel) (HasPlacedWheel v.file wheel) (λ w. Judges (FamilyGives w) (HasFewStates w) (Writes (IsSized w))) (λ end. end ≡ Err cause.Usage → ⊥) work
+    (λ e s. not_cause e (open_not_usage v wheel e s)) (λ e s. not_cause e (read_not_usage v (ModelGives v.file wheel) e s))
+    (λ w rest a n.
+    judges_end (FamilyGives w) (HasFewStates w) (Writes (IsSized w)) (λ end. end ≡ Err cause.Usage → ⊥) rest (λ e s. not_cause e (judge_not_usage (FamilyGives w) e s))
+    (λ few p. writes_end (IsSized w) (λ end. end ≡ Err cause.Usage → ⊥) rest (λ text end d. not_done_for_usage end d.1.1.1) (λ e s. not_cause e (write_not_usage e s)) p) n)
+    r
+
 work_not_usage : (v : View) (order : Order) (work : Work) → IsWork v (Some order) work → work.end ≡ Err cause.Usage → ⊥
 work_not_usage v (Replay m c o) work r =
     hands_end (IsReplay v m c o) (λ end. end ≡ Err cause.Usage → ⊥) work (λ rest n. replay_not_usage v m c o rest n) (not_cause cause.WriteFault (λ is. cc)) r
 work_not_usage v (Import source name) work r =
     hands_end (IsImport v source name) (λ end. end ≡ Err cause.Usage → ⊥) work (λ rest n. import_not_usage v source name rest n) (not_cause cause.WriteFault (λ is. cc)) r
+work_not_usage v (Size wheel) work r = hands_end (IsSize v wheel) (λ end. end ≡ Err cause.Usage → ⊥) work (λ rest n. size_not_usage v wheel rest n) (not_cause cause.WriteFault (λ is. cc)) r
+work_not_usage v (Check wheel capture report cert o) work r =
+    hands_end (IsCheck v wheel capture report cert o) (λ end. end ≡ Err cause.Usage → ⊥) work (λ rest n. check_not_usage v wheel capture report cert o rest n) (not_cause cause.WriteFault (λ is. cc)) r
 
 usage_end : (end : Result Done Cause) → status_of end ≡ status.Usage → end ≡ Err cause.Usage
 usage_end (Ok done.Whole) is = absurd (cc)

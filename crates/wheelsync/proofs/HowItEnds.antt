@@ -1,7 +1,6 @@
 -- How the commands end, end by end.
-use Rattle.std.proofs.Common.{◌≡◌, ℕ, ◌≤◌, ◌⊎◌, inl, inr, List, [], length, take, Option, None, Result, Ok, Err, refl, sym, ◌∙◌, subst, ap, arith}
+use Rattle.std.proofs.Common.{◌≡◌, ℕ, ◌≤◌, ◌⊎◌, inl, inr, List, [], length, take, Option, Result, Ok, Err, refl, sym, ◌∙◌, subst, ap, arith}
 use Rattle.std.proofs.Math.Seq.{take-length}
-use Rattle.std.specs.Prelude.{IsTrue}
 use Rattle.shelf_traits.specs.Shelf.{View}
 use Rattle.wheel_types.specs.declared.parts.WheelParts.{WheelParts}
 use Rattle.capture_core.specs.declared.capture.Capture.{Capture}
@@ -17,12 +16,12 @@ use Rattle.run_ends.specs.Works.{Work, Told, Reads, Writes, StopsOpen, StopsRead
 use Rattle.run_ends.proofs.Outcomes.{reads_out, writes_out, hands_out}
 use Rattle.run_files.specs.Causes.{FileGives, ModelGives, SourceGives, ended_by}
 use Rattle.run_files.specs.Files.{HasPlacedWheel, HasTable}
-use Rattle.wheelsync.specs.Captures.{HasNamedCapture}
+use Rattle.named_captures.specs.Captures.{HasNamedCapture}
 use Rattle.wheelsync.specs.Complete.{AreRead}
 use Rattle.wheelsync.specs.Headline.{IsReport}
 use Rattle.wheelsync.specs.Replay.{IsReplay}
 use Rattle.wheelsync.specs.Import.{IsImport}
-use Rattle.wheelsync.specs.Endings.{IsMissing, GotReport, GotFront, ReplayEnds, GotTableFront, ImportEnds, ReplaysEnd, ImportsEnd}
+use Rattle.wheelsync.specs.Endings.{GotReport, GotFront, ReplayEnds, GotTableFront, ImportEnds, ReplaysEnd, ImportsEnd}
 use Rattle.wheelsync.proofs.Endings.{IsReported, IsSlotsLine}
 
 -- a whole text is a front of itself

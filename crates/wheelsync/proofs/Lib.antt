@@ -1,4 +1,3 @@
-pub mod FileNames
 pub mod Sayings
 pub mod OneReport
 pub mod Reports

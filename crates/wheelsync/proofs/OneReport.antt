@@ -7,11 +7,11 @@ use Rattle.wheel_types.specs.Edges.{edge_count}
 use Rattle.wheel_types.specs.Texts.{report_text}
 use Rattle.wheel_types.proofs.Determined.{verdicts_determined}
 use Rattle.capture_core.specs.declared.capture.Capture.{Capture}
-use Rattle.wheelsync.specs.Captures.{IsCapture}
+use Rattle.named_captures.specs.Captures.{IsCapture}
 use Rattle.wheelsync.specs.Headline.{IsReport}
 use Rattle.wheelsync.specs.Laws.{OneReport}
 use Rattle.wheel_pattern.proofs.OneMeaning.{one_wheel}
-use Rattle.wheelsync.proofs.FileNames.{one_capture}
+use Rattle.named_captures.proofs.FileNames.{one_capture}
 use Rattle.wheelsync.proofs.Sayings.{are_verdicts}
 
 -- the instants determine their report

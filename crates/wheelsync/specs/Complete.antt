@@ -1,13 +1,20 @@
 -- When a run has nothing to refuse.
-use Rattle.std.specs.Prelude.{◌≡◌, List, ℕ}
+use Rattle.std.specs.Prelude.{◌≡◌, ◌⊎◌, List, ℕ}
 use Rattle.std.specs.declared.option.Option.{Option}
 use Rattle.wheel_types.specs.declared.parts.WheelParts.{WheelParts}
 use Rattle.capture_core.specs.declared.capture.Capture.{Capture}
 use Rattle.capture_core.specs.declared.capture.End.TheVariants.{Clean}
 use Rattle.command_words.specs.Options.{Options}
 use Rattle.run_files.specs.Files.{HasPlacedWheel, HasTable}
-use Rattle.wheelsync.specs.Captures.{HasNamedCapture}
-use Rattle.command_words.specs.Words.{Order, Replay, Import}
+use Rattle.named_captures.specs.Captures.{HasNamedCapture}
+use Rattle.table_commands.specs.States.{HasFewStates}
+use Rattle.command_words.specs.Words.{Order, Replay, Import, Size, Check}
+use Rattle.wheel_types.specs.declared.verdict.Report.{Report}
+use Rattle.pair_certificate.specs.declared.line.CertLine.{CertLine}
+use Rattle.certificate_checker.specs.Valid.{IsValid}
+use Rattle.check_command.specs.Checked.{AreChecked}
+use Rattle.run_ends.specs.declared.status.Status.{Status}
+use Rattle.run_ends.specs.declared.status.Status.TheVariants as status
 
 -- the model's file is one of this placed wheel, and the other has this capture over it, however it ends
 pub record AreRead (file : List ℕ → Option (List ℕ)) (model capture_name : List ℕ) (o : Options) (w : WheelParts) (capture : Capture) : Type 0 where
@@ -19,7 +26,28 @@ pub record AreAccepted (file : List ℕ → Option (List ℕ)) (model capture_na
   pub files : AreRead file model capture_name o w capture
   pub clean : capture.end ≡ Clean
 
--- the files are there, short enough and accepted
+-- the wheel's file is there, and its places and its family are within their limits
+pub record IsCounted (file : List ℕ → Option (List ℕ)) (wheel : List ℕ) (w : WheelParts) : Type 0 where
+  pub wheel_file : HasPlacedWheel file wheel w
+  pub few : HasFewStates w
+
+-- the files are there, short enough and accepted, and a certificate that is to be checked is valid
 abbrev pub AreReady : (List ℕ → Option (List ℕ)) → Order → Type 0
 AreReady file (Replay model capture_name o) = (w : WheelParts) × ((capture : Capture) × AreAccepted file model capture_name o w capture)
 AreReady file (Import source name) = (slots : List ℕ) × HasTable file source name slots
+AreReady file (Size wheel) = (w : WheelParts) × IsCounted file wheel w
+AreReady file (Check wheel capture_name report cert o) =
+    (w : WheelParts) × ((capture : Capture) × ((rs : List Report) × ((cs : List CertLine) × (AreChecked file wheel capture_name report cert o w capture rs cs × IsValid w capture.instants rs cs))))
+
+-- the files of a check are there, short enough and accepted, and its certificate is not valid
+abbrev pub IsDenied : (List ℕ → Option (List ℕ)) → Order → Type 0
+IsDenied file (Check wheel capture_name report cert o) =
+    (w : WheelParts) × ((capture : Capture) × ((rs : List Report) × ((cs : List CertLine) × (AreChecked file wheel capture_name report cert o w capture rs cs × (¬ IsValid w capture.instants rs cs)))))
+IsDenied file (Replay model capture_name o) = ⊥
+IsDenied file (Import source name) = ⊥
+IsDenied file (Size wheel) = ⊥
+
+-- the status is the one that the files make due, or want of memory: done where they are accepted, no where a check's certificate is not valid
+abbrev pub IsDue : (List ℕ → Option (List ℕ)) → Order → Status → Type 0
+IsDue file order s =
+    (AreReady file order → (s ≡ status.Done) ⊎ (s ≡ status.Memory)) × (IsDenied file order → (s ≡ status.No) ⊎ (s ≡ status.Memory))

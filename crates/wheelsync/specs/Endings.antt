@@ -1,5 +1,5 @@
 -- How the commands end, and what out got by then: what follows of their relations, end by end.
-use Rattle.std.specs.Prelude.{◌≡◌, ◌≤◌, ◌⊎◌, ℕ, List, [], length, take, IsTrue, None, Some, Result, Ok, Err}
+use Rattle.std.specs.Prelude.{◌≡◌, ◌≤◌, ◌⊎◌, ℕ, List, [], length, take, IsTrue, None, Result, Ok, Err}
 use Rattle.std.specs.declared.option.Option.{Option}
 use Rattle.shelf_traits.specs.Shelf.{View}
 use Rattle.wheel_types.specs.declared.parts.WheelParts.{WheelParts}
@@ -13,7 +13,7 @@ use Rattle.run_ends.specs.declared.cause.Cause.TheVariants as cause
 use Rattle.run_ends.specs.Works.{Work, Told, HandsOn}
 use Rattle.run_files.specs.Causes.{FileGives, ModelGives, SourceGives, ended_by}
 use Rattle.run_files.specs.Files.{HasPlacedWheel, HasTable}
-use Rattle.wheelsync.specs.Complete.{AreRead, AreAccepted}
+use Rattle.wheelsync.specs.Complete.{AreRead}
 use Rattle.wheelsync.specs.Headline.{IsReport}
 use Rattle.wheelsync.specs.Replay.{IsReplay}
 use Rattle.wheelsync.specs.Import.{IsImport}

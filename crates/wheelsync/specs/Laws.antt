@@ -3,7 +3,7 @@ use Rattle.std.specs.Prelude.{◌≡◌, ℕ, List}
 use Rattle.wheel_types.specs.declared.parts.WheelParts.{WheelParts}
 use Rattle.capture_core.specs.declared.capture.Capture.{Capture}
 use Rattle.wheel_pattern.specs.WheelFile.{MeansWheel}
-use Rattle.wheelsync.specs.Captures.{IsCapture}
+use Rattle.named_captures.specs.Captures.{IsCapture}
 use Rattle.command_words.specs.Options.{Options}
 use Rattle.wheelsync.specs.Headline.{IsReport}
 

@@ -3,7 +3,6 @@ pub mod Sayings
 pub mod Headline
 pub mod Outputs
 pub mod Stepping
-pub mod Captures
 pub mod Complete
 pub mod Replay
 pub mod Import

@@ -5,7 +5,7 @@ use Rattle.command_words.specs.Options.{Options}
 use Rattle.run_ends.specs.Works.{Work, Reads, Writes}
 use Rattle.run_files.specs.Causes.{FileGives, ModelGives, ended_by}
 use Rattle.run_files.specs.Files.{HasPlacedWheel}
-use Rattle.wheelsync.specs.Captures.{HasNamedCapture}
+use Rattle.named_captures.specs.Captures.{HasNamedCapture}
 use Rattle.wheelsync.specs.Headline.{IsReport}
 
 -- The model is read, and is a wheel with few enough places; the capture is read over it; the report of its instants is written, and the

@@ -6,10 +6,12 @@ ghost use Rattle.wheelsync.specs.Commands.{IsWork};
 
 use crate::import::import;
 use crate::replay::replay;
+use check_command::check_files;
 use command_words::{Command, read_command};
 use run_ends::{Cause, Done, hand_on};
 use shelf_io::{Shelf, Sink};
 use std::alloc::Global;
+use table_commands::size;
 
 /// Serves the words, but for the line on notes. Out is handed on at the end of a command.
 pub fn serve<S: Shelf, O: Sink>(
@@ -34,6 +36,19 @@ pub fn serve<S: Shelf, O: Sink>(
         ) => hand_on(replay(alloc, model, capture, options, shelf, out), out),
         Some(Command::Import { source, name }) => hand_on(
             import(alloc, source, name, shelf, out),
+            out,
+        ),
+        Some(Command::Size { wheel }) => hand_on(size(alloc, wheel, shelf, out), out),
+        Some(
+            Command::Check {
+                wheel,
+                capture,
+                report,
+                cert,
+                options,
+            },
+        ) => hand_on(
+            check_files(alloc, wheel, capture, report, cert, options, shelf, out),
             out,
         ),
     }

@@ -3,9 +3,8 @@ ghost use Rattle.std.specs.Prelude.{[], None};
 ghost use Rattle.run_ends.specs.Serving.{Served, stream};
 ghost use Rattle.wheelsync.specs.Import.{IsImport};
 
-use crate::put::put;
 use c_tables::slots_line;
-use run_ends::{Cause, Done};
+use run_ends::{Cause, Done, put};
 use run_files::load_table;
 use shelf_io::{Shelf, Sink};
 use std::alloc::{AllocError, Global};

@@ -4,7 +4,6 @@
 //! that a report is exactly what the permitted motions prove.
 #![tactic(auto)]
 
-mod capture;
 mod commands;
 mod import;
 mod laws;

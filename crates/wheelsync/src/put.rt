@@ -14,28 +14,10 @@ ghost use Rattle.wheelsync.specs.Stepping.{StandsOver, GetsLine, GetsLineFront, 
 
 use pair_certificate::report_line;
 use plain_motion::PlainSet;
-use run_ends::Cause;
-use shelf_io::{PutFault, Sink, write_all};
+use run_ends::{Cause, put};
+use shelf_io::Sink;
 use std::alloc::Global;
 use wheel_types::{Instant, Memory, Report};
-
-/// Writes a whole text.
-pub fn put<O: Sink>(out: &mut O, text: &[u8]) -> Result<(), Cause>
-    ensures later { O.faults out.old ≤ O.faults out.new }
-    ensures ok { OnOk result (Appends (O.taken out.old) (O.taken out.new) text.now) }
-    ensures err { OnErr result (AppendsPrefix (O.taken out.old) (O.taken out.new) text.now) }
-    ensures kinds { IfErr result StopsWrite }
-    ensures write { IsErrOf result Cause.WriteFault → Rose (O.faults out.old) (O.faults out.new) }
-    ensures quiet { ¬ IsErrOf result Cause.WriteFault → O.faults out.new ≡ O.faults out.old }
-    ensures steady { IsTrue (O.steady out.old) → IsTrue (O.steady out.new) }
-    ensures calm { IsTrue (O.steady out.old) → ¬ IsErrOf result Cause.WriteFault }
-{
-    match write_all(out, text) {
-        Ok(()) => Ok(()),
-        Err(PutFault::Failed { .. }) => Err(Cause::WriteFault),
-        Err(PutFault::Memory { .. }) => Err(Cause::Memory),
-    }
-}
 
 /// Steps one instant, and writes its line.
 fn put_instant<O: Sink>(

@@ -4,9 +4,9 @@ ghost use Rattle.command_words.specs.Options.{options_of};
 ghost use Rattle.run_ends.specs.Serving.{Served, stream};
 ghost use Rattle.wheelsync.specs.Replay.{IsReplay};
 
-use crate::capture::load_named;
 use crate::put_report;
 use command_words::Options;
+use named_captures::load_named;
 use run_ends::{Cause, Done};
 use run_files::{Model, ended, load_model};
 use shelf_io::{Shelf, Sink};

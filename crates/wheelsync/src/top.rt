@@ -1,8 +1,8 @@
 //! The top call.
-ghost use Rattle.std.specs.Prelude.{◌≡◌, ◌⊎◌, [], None, IsTrue, IfSome, map, string_bytes};
+ghost use Rattle.std.specs.Prelude.{◌≡◌, [], None, IsTrue, IfSome, map, string_bytes};
 ghost use Rattle.command_words.specs.Words.{command_of};
 ghost use Rattle.run_ends.specs.Serving.{Ran, NoneFailed, WentOut, stream};
-ghost use Rattle.wheelsync.specs.Complete.{AreReady};
+ghost use Rattle.wheelsync.specs.Complete.{IsDue};
 ghost use Rattle.wheelsync.specs.Commands.{IsWork};
 
 use crate::{Tap, serve};
@@ -15,8 +15,11 @@ use std::alloc::Global;
 /// `replay MODEL CAPTURE` reads a wheel file and a capture, and writes a report line for each instant of the capture on `out`. A
 /// capture is a value change dump where its first byte past white space is a dollar sign, and else CSV. Where it has a fault, `out`
 /// has the lines of the instants whose stamps closed before it, `notes` has the fault's line, and the status is `Refused`.
-/// `import SOURCE NAME` reads a C source, and writes the slots of its table of that name as a line of a wheel file. On `notes` comes
-/// one line, where the status is not `Done`. The taps are dropped untouched.
+/// `import SOURCE NAME` reads a C source, and writes the slots of its table of that name as a line of a wheel file. `size WHEEL` reads
+/// a wheel file, and writes how many places, cuts and states the wheel's table has.
+/// `check WHEEL CAPTURE REPORT CERT` reads a wheel file, a capture that is to end clean, a report and a certificate, and writes `yes` where
+/// the certificate is valid, and else `no` with the first instant that has a broken rule and the number of its first one; the status is
+/// then `No`. On `notes` comes one line, where the status is neither `Done` nor `No`. The taps are dropped untouched.
 pub fn run<S: Shelf, O: Sink, N: Sink>(
     alloc: Global,
     words: &[String],
@@ -38,11 +41,12 @@ pub fn run<S: Shelf, O: Sink, N: Sink>(
     ensures settled { WentOut result → (O.faults out.new ≡ O.faults out.old) × (N.faults notes.new ≡ N.faults notes.old) }
     ensures handed { WentOut result → O.waiting out.old ≡ 0 → O.waiting out.new ≡ 0 }
 
-    // Accepted files over a steady shelf, with sinks on which no write fails, give Done or want of memory.
+    // Over a steady shelf, with sinks on which no write fails, files that are accepted give Done, and a certificate that is not valid
+    // gives No; or memory was wanting.
     ensures complete { IsTrue (S.view shelf.old).tells → IsTrue (S.view shelf.old).steady
         → NoneFailed (stream (O.faults out.old) (O.taken out.old) (O.steady out.old)) (stream (O.faults out.new) (O.taken out.new) (O.steady out.new))
         → NoneFailed (stream (N.faults notes.old) (N.taken notes.old) (N.steady notes.old)) (stream (N.faults notes.new) (N.taken notes.new) (N.steady notes.new))
-        → IfSome (command_of (map string_bytes words.now)) (λ order. AreReady (S.view shelf.old).file order → (result ≡ Status.Done) ⊎ (result ≡ Status.Memory)) }
+        → IfSome (command_of (map string_bytes words.now)) (λ order. IsDue (S.view shelf.old).file order result) }
 {
     let end = serve(alloc, words, shelf, out);
     drop(taps);

@@ -6,6 +6,9 @@ const HELP: &[u8] =
     wheelsync replay MODEL CAPTURE [--time NAME] [--crank NAME] [--cam1 NAME] [--cam2 NAME]
                                       replay a capture of edges over a wheel
     wheelsync import SOURCE NAME      print the slots of a C source's table
+    wheelsync size WHEEL              print the sizes of a wheel's table
+    wheelsync check WHEEL CAPTURE REPORT CERT [--time NAME] ..
+                                      print whether a certificate shows a report right
     wheelsync --help                  this page
     wheelsync --version               the version
 
@@ -25,8 +28,9 @@ For each instant one line comes on standard output:
 TIME is in femtoseconds, SHAPE joins C, 1 and 2 with + or -, a place is j:n1:n2.
 
 The status is 0 done, 1 a file is refused, 2 no such command, 3 a read failed,
-4 a write failed, 5 want of memory, 6 a file has more than 268435456 bytes or the
-wheel more than 16384 places. A line on standard error names the cause.
+4 a write failed, 5 want of memory, 6 a file has more than 268435456 bytes, the
+wheel more than 16384 places or its table too many states, 7 a certificate is not
+valid. A line on standard error names the cause, but for 0 and 7.
 
     $ wheelsync replay examples/three-teeth.toml examples/three-teeth.csv
     1 0 C+ open 2:0:0 0:0:0

@@ -3,7 +3,7 @@ use Rattle.std.proofs.lemmas.Bool.{false≢true}
 use Rattle.std.proofs.lemmas.List.Elements.{Contains-get_or}
 use Rattle.std.specs.Prelude.{Contains}
 use Rattle.plain_motion.proofs.Images.{somewhere}
-use Rattle.certificate_checker.proofs.Halves.{before, after, not_between}
+use Rattle.cam_ranges.proofs.OrderedLists.{before, after, not_between}
 use Rattle.certificate_checker.proofs.lines.has_place.Goals as goal
 
 pub loop-low-preserved-then-is_less : goal.loop-low-preserved-then-is_less

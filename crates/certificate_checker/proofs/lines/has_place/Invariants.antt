@@ -1,5 +1,5 @@
 use Rattle.std.proofs.Common.{◌-◌, ◌≤◌, length}
-use Rattle.certificate_checker.proofs.Halves.{AreBetween}
+use Rattle.cam_ranges.proofs.OrderedLists.{AreBetween}
 use Rattle.certificate_checker.proofs.lines.has_place.Given as goal
 
 abbrev pub invariant-loop-low : goal.invariant-loop-low

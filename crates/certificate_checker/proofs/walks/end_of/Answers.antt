@@ -1,6 +1,6 @@
 use Rattle.std.proofs.Common.{◌∷◌}
 use Rattle.plain_motion.specs.Sets.{wheel_of}
-use Rattle.certificate_checker.proofs.InstantRules.{walk_found, none_walks, has_some}
+use Rattle.certificate_checker.proofs.InstantRules.{walk_found, none_walks}
 use Rattle.certificate_checker.proofs.walks.end_of.Goals as goal
 
 pub returns-in-Lost : goal.returns-in-Lost
@@ -8,4 +8,4 @@ returns-in-Lost c = λ past verdicts s i before t e k. none_walks (wheel_of c.ar
 
 pub returns-in_default : goal.returns-in_default
 returns-in_default c = λ past verdicts s i before t.
-    walk_found (wheel_of c.args.set.now) (i ∷ before) s.kept.window c.args.verdict c.args.start c.walk_end.result c.in_default.not-Lost t (c.walk_end.ensures past verdicts s (has_some (wheel_of c.args.set.now) i before s.kept.window c.args.verdict c.in_default.not-Lost t))
+    walk_found (wheel_of c.args.set.now) (i ∷ before) s.kept.window c.args.verdict c.args.start c.end_of.result c.in_default.not-Lost t (c.end_of.ensures past verdicts s)

@@ -1,14 +1,15 @@
 use Rattle.std.proofs.lemmas.Result.{err_from_is_err_and}
 use Rattle.position_nfa.specs.Alphabets.{width}
 use Rattle.position_nfa.specs.Views.{alphabet}
-use Rattle.subset_build.proofs.Limits.{state-is_set, grows, state_past, dead-at}
+use Rattle.subset_build.proofs.Limits.{state-is_set, grows, state_past}
+use Rattle.subset_build.proofs.RowLaws.{first_at}
 use Rattle.subset_build.proofs.family.take_state.Goals as goal
 
 pub take_letters-requires-clause-set : goal.take_letters-requires-clause-set
 take_letters-requires-clause-set c = state-is_set (alphabet c.args.nfa.now) c.args.states.now.keys c.args.q c.in_ok-state.state c.requires.state.1 c.in_ok-state.ensures
 
 pub take_letters-requires-clause-dead : goal.take_letters-requires-clause-dead
-take_letters-requires-clause-dead c = dead-at (alphabet c.args.nfa.now) c.args.states.now.keys c.args.q c.requires.state.1
+take_letters-requires-clause-dead c = first_at (alphabet c.args.nfa.now) c.args.states.now.keys c.args.q c.requires.state.1
 
 pub returns-clause-grows : goal.returns-clause-grows
 returns-clause-grows c = grows (alphabet c.args.nfa.now) c.args.states.now.keys c.take_letters.new.states.keys c.in_ok-state.state (width (alphabet c.args.nfa.now)) c.in_ok-room.ensures.numbers

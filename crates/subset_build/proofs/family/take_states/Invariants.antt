@@ -2,7 +2,7 @@ use Rattle.std.proofs.Common.{◌≡◌, ◌≤◌, ◌-◌, length}
 use Rattle.place_words.specs.Words.{words_for}
 use Rattle.position_nfa.specs.Alphabets.{count}
 use Rattle.position_nfa.specs.Views.{alphabet}
-use Rattle.subset_build.specs.Families.{explored}
+use Rattle.position_nfa.specs.Families.{explored}
 use Rattle.subset_build.proofs.family.take_states.Given as goal
 
 abbrev pub invariant-loop-q : goal.invariant-loop-q

@@ -32,3 +32,23 @@ returns-in-Some-Import-clause-served g c =
     subst (λ order. Served (IsWork v order) None v (g.S.Shelf.view c.import.new.shelf) old new [] after.result)
     (ap (λ f. Some (order_of f)) (sym c.in-Some-Import.field-0-is) ∙ c.in-Some-Import.ensures)
     (handed_on _ _ _ _ _ _ _ _ _ _ c.import.ensures after.ensures.handed)
+
+pub returns-in-Some-Size-clause-served : goal.returns-in-Some-Size-clause-served
+returns-in-Some-Size-clause-served g c =
+    let v = g.S.Shelf.view c.args.shelf.now in
+    let old = stream (g.O.Sink.faults c.args.out.now) (g.O.Sink.taken c.args.out.now) (g.O.Sink.steady c.args.out.now) in
+    let after = c.hand_on-in-Some-Size in
+    let new = stream (g.O.Sink.faults after.new.out) (g.O.Sink.taken after.new.out) (g.O.Sink.steady after.new.out) in
+    subst (λ order. Served (IsWork v order) None v (g.S.Shelf.view c.size.new.shelf) old new [] after.result)
+    (ap (λ f. Some (order_of f)) (sym c.in-Some-Size.field-0-is) ∙ c.in-Some-Size.ensures)
+    (handed_on _ _ _ _ _ _ _ _ _ _ c.size.ensures after.ensures.handed)
+
+pub returns-in-Some-Check-clause-served : goal.returns-in-Some-Check-clause-served
+returns-in-Some-Check-clause-served g c =
+    let v = g.S.Shelf.view c.args.shelf.now in
+    let old = stream (g.O.Sink.faults c.args.out.now) (g.O.Sink.taken c.args.out.now) (g.O.Sink.steady c.args.out.now) in
+    let after = c.hand_on-in-Some-Check in
+    let new = stream (g.O.Sink.faults after.new.out) (g.O.Sink.taken after.new.out) (g.O.Sink.steady after.new.out) in
+    subst (λ order. Served (IsWork v order) None v (g.S.Shelf.view c.check_files.new.shelf) old new [] after.result)
+    (ap (λ f. Some (order_of f)) (sym c.in-Some-Check.field-0-is) ∙ c.in-Some-Check.ensures)
+    (handed_on _ _ _ _ _ _ _ _ _ _ c.check_files.ensures after.ensures.handed)

@@ -1,4 +1,4 @@
-use Rattle.std.proofs.Common.{◌≡◌, ◌∙◌, ap, refl, Err}
+use Rattle.std.proofs.Common.{◌∙◌, ap, refl, Err}
 use Rattle.std.proofs.lemmas.Result.{err_from_is_err_and}
 use Rattle.c_tables.specs.Slots.{slots_text}
 use Rattle.run_ends.proofs.Serving.{stops, goes_on, wrote, wrote_front, no_memory, rises}

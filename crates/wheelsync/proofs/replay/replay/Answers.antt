@@ -1,8 +1,8 @@
-use Rattle.std.proofs.Common.{◌≡◌, ap, subst, Ok, Err}
+use Rattle.std.proofs.Common.{ap, subst, Ok, Err}
 use Rattle.std.proofs.lemmas.Result.{err_from_is_err_and}
 use Rattle.command_words.specs.Options.{options_of}
 use Rattle.run_files.specs.Causes.{FileGives}
-use Rattle.wheelsync.specs.Captures.{HasNamedCapture}
+use Rattle.named_captures.specs.Captures.{HasNamedCapture}
 use Rattle.run_ends.proofs.Loading.{loads_before}
 use Rattle.run_ends.proofs.Serving.{stops, goes_on, rises}
 use Rattle.wheelsync.specs.Outputs.{GetsReport}

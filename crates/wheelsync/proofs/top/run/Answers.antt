@@ -1,5 +1,4 @@
 use Rattle.std.proofs.Common.{[], map, string_bytes}
-use Rattle.std.specs.Prelude.{IsTrue}
 use Rattle.command_words.specs.Words.{command_of}
 use Rattle.run_ends.specs.Serving.{stream}
 use Rattle.wheelsync.proofs.Completing.{usage_alone, completes, end_went_out}

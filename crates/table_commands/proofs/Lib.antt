@@ -1,0 +1,5 @@
+pub mod Sizing
+pub mod OneList
+pub mod OneFamily
+pub mod OneSize
+pub mod SizesEnd

@@ -1,0 +1,15 @@
+pub mod Leasts
+pub mod Copies
+pub mod PartsLaid
+pub mod StatesLaid
+pub mod TableRows
+pub mod TableBack
+pub mod BodySize
+pub mod TableFacts
+pub mod StateFacts
+pub mod SetWords
+pub mod Fits
+pub mod Numbered
+pub mod Assembled
+pub mod Compiled
+pub mod Images

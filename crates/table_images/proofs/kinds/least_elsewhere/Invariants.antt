@@ -1,0 +1,7 @@
+use Rattle.std.proofs.Common.{ℕ, ◌<◌}
+use Rattle.position_nfa.specs.Sound.{IsElsewhere}
+use Rattle.position_nfa.specs.Views.{alphabet}
+use Rattle.table_images.proofs.kinds.least_elsewhere.Given as goal
+
+abbrev pub invariant-loop-i : goal.invariant-loop-i
+invariant-loop-i l = (k : ℕ) → k < l.i → IsElsewhere (alphabet l.nfa) l.set l.j k → ⊥
