@@ -15,3 +15,5 @@ pub mod ExactValid
 pub mod Taken
 pub mod Checked
 pub mod OneAnswer
+pub mod ExactExists
+pub mod ExactOnce

@@ -24,6 +24,17 @@ abbrev pub ExactCertificatesAreValid : Type 0
 ExactCertificatesAreValid = (w : WheelParts) (is : List Instant) (vs : List Verdict) (cs : List CertLine) (window : List Instant)
     → IsWheel w → IsRising is → AreExactLines w (reverse is) vs cs window → IsValid w is (reports_of 1 is (reverse vs)) (reverse cs)
 
+-- instants whose times rise have verdicts and an exact certificate on every wheel
+abbrev pub ExactCertificatesExist : Type 0
+ExactCertificatesExist = (w : WheelParts) (is : List Instant) → IsWheel w → IsRising is
+    → (vs : List Verdict) × ((cs : List CertLine) × ((window : List Instant) × AreExactLines w (reverse is) vs cs window))
+
+-- and one alone
+abbrev pub ExactCertificatesAreOne : Type 0
+ExactCertificatesAreOne =
+    (w : WheelParts) (is : List Instant) (vs us : List Verdict) (cs ds : List CertLine) (window other : List Instant)
+    → IsWheel w → AreExactLines w (reverse is) vs cs window → AreExactLines w (reverse is) us ds other → cs ≡ ds
+
 -- what is answered of a valid certificate is yes
 abbrev pub ValidIsAnsweredYes : Type 0
 ValidIsAnsweredYes = (w : WheelParts) (is : List Instant) (report : List Report) (cert : List CertLine) (a : Answer)
