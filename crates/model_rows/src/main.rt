@@ -2,9 +2,10 @@
 //!
 //! A row's first field is its kind. In these kinds the fields `LINES` are the lines of a wheel file, or names for several:
 //! `wheel | LINES` tells its degrees and slots, and then its polarities, phasings and limits, or its fault; `size | LINES` how many
-//! slots it has; `printed | LINES` the file of the wheel as it is printed; `edges | LINES` its edges; `places | LINES` its places;
-//! `count | LINES` how many these are; `stands | LINES | PLACE` whether it stands at a place; `verdicts | LINES | INSTANTS` what the
-//! instants prove, each in turn; `legal | LINES | PLACE | INSTANT` where the step of a place ends at a first instant. In all of them
+//! slots it has; `printed | LINES` the file of the wheel as it is printed; `back | LINES` whether that file is read back as the wheel;
+//! `edges | LINES` its edges; `places | LINES` its places; `count | LINES` how many these are; `stands | LINES | PLACE` whether it stands
+//! at a place; `verdicts | LINES | INSTANTS` what the instants prove, each in turn; `legal | LINES | PLACE | INSTANT` where the step of
+//! a place ends at a first instant. In all of them
 //! but the first `{3 1, 0, }` stands for `1, 0, 1, 0, 1, 0, `.
 //!
 //! `bytes | TEXT` tells the same as `wheel` of a file of this text, `table NAME | SOURCE` the slots of a C source's table, and
@@ -29,7 +30,7 @@ use std::alloc::{AllocError, Global};
 use std::io;
 use tables::{told_of_cuts, told_of_line, told_of_table};
 use verdicts::{told_of_legal, told_of_verdicts};
-use wheels::{told_of_bytes, told_of_file, told_of_print, told_of_size};
+use wheels::{told_of_back, told_of_bytes, told_of_file, told_of_print, told_of_size};
 
 /// What is told of a row, or `None` where it is none.
 type Told = Result<Option<String>, AllocError>;
@@ -53,6 +54,7 @@ fn told_of_kind(alloc: Global, kind: &str, asked: &[String]) -> Told {
         ("wheel", lines) => told_of_file(alloc, lines),
         ("size", lines) => told_of_size(alloc, lines),
         ("printed", lines) => told_of_print(alloc, lines),
+        ("back", lines) => told_of_back(alloc, lines),
         ("edges", lines) => told_of_edges(alloc, lines),
         ("places", lines) => told_of_places(alloc, lines),
         ("count", lines) => told_of_count(alloc, lines),

@@ -69,3 +69,21 @@ pub fn told_of_print(alloc: Global, lines: &[String]) -> Told {
         Err(Memory) => Err(AllocError),
     }
 }
+
+/// How many slots a wheel has, and whether the file that is printed of it is read back as the same wheel.
+pub fn told_of_back(alloc: Global, lines: &[String]) -> Told {
+    let Some(wheel) = wheel_of(alloc, lines)? else {
+        return Ok(None);
+    };
+    let Ok(bytes) = write_wheel(alloc, &wheel) else {
+        return Err(AllocError);
+    };
+    let slots = slots_of(alloc, &wheel)?;
+    let rest = rest_of(alloc, &wheel)?;
+    let before = format!(in alloc; "{slots} {rest}")?;
+    let same = match told_of(alloc, &bytes)? {
+        Some(after) => after.as_str() == before.as_str(),
+        None => false,
+    };
+    Ok(Some(format!(in alloc; "{} slots, the same: {same}", wheel.parts().slots.as_slice().len())?))
+}

@@ -2,18 +2,22 @@
 //!
 //! Fields of a row are `replay OPTIONS | WHEEL | CAPTURE`; or `prefixes | WHEEL | CAPTURE` for all that the capture begins with; or
 //! `WORDS | FAILING | WHEEL | CAPTURE` where a call of the shelf, or a write on out or on notes, fails, or out is a stream that has room
-//! for so many bytes; or `WORDS | FAILING | WHEEL | CAPTURE | REPORT | CERT` over the files of a check; or `WORDS | REPORT` over the files beside the program, with the file of what out gets. A blank stands between two words, `~` for a blank in a word, and `�` in a file for
-//! the byte 255, which no text has.
+//! for so many bytes; or `WORDS | FAILING | WHEEL | CAPTURE | REPORT | CERT` over the files of a check; or `WORDS | REPORT` over the files
+//! beside the program, with the file of what out gets. A blank stands between two words, `~` for a blank in a word, and `�` in a file for
+//! the byte 255, which no text has. `long | WHEEL | CAPTURE | 9 × ROWS` is a replay of a capture that goes on with nine copies of rows,
+//! in which `%` stands for the copy's number from 0: how many lines the report has, and the last of them.
 #![tactic(auto)]
 
 mod checks;
 mod examples;
+mod long;
 mod memory;
 mod prefixes;
 mod streams;
 
 use checks::told_of_check;
 use examples::told_of_files;
+use long::told_of_long;
 use memory::{bytes_of, told_of_replay, told_of_words};
 use prefixes::told_of_prefixes;
 use rows::{Tells, check};
@@ -34,6 +38,9 @@ impl Tells for Runs<'_> {
             [kind, wheel, capture] => {
                 let files = (bytes_of(alloc, wheel)?, bytes_of(alloc, capture)?);
                 told_of_kind(alloc, kind, (&files.0, &files.1))
+            }
+            [kind, wheel, front, copies] if kind.as_str() == "long" => {
+                told_of_long(alloc, wheel, front, copies)
             }
             [words, failing, wheel, capture] => {
                 let files = (bytes_of(alloc, wheel)?, bytes_of(alloc, capture)?);
