@@ -85,5 +85,8 @@ pub fn told_of_back(alloc: Global, lines: &[String]) -> Told {
         Some(after) => after.as_str() == before.as_str(),
         None => false,
     };
-    Ok(Some(format!(in alloc; "{} slots, the same: {same}", wheel.parts().slots.as_slice().len())?))
+    Ok(Some(format!(in alloc;
+        "{} slots, the same: {same}",
+        wheel.parts().slots.as_slice().len()
+    )?))
 }
