@@ -17,14 +17,9 @@ fn push_copies(alloc: Global, bytes: &mut Vec<u8>, asked: &str) -> Result<(), Al
 }
 
 /// How many lines a text has, and the last of them.
-fn count_of(text: &str) -> (u64, &str) {
-    let mut last = "";
-    let mut count: u64 = 0;
-    for line in text.lines() {
-        count = count.saturating_add(1);
-        last = line;
-    }
-    (count, last)
+fn count_of(text: &str) -> (usize, &str) {
+    let last = text.lines().last().unwrap_or("");
+    (text.lines().count(), last)
 }
 
 /// What is told of a replay of a capture that goes on with copies of rows.
