@@ -11,6 +11,7 @@ usage: bench/certificates.py exact WHEEL CAPTURE [CRANK [CAM1 [CAM2]]]      prin
 import itertools
 import random
 import sys
+import tomllib
 
 from reference import CHANNELS, Wheel, ends, instants_of, keeps_limits, moves
 
@@ -165,7 +166,8 @@ def joined(rows):
 
 
 def main(words):
-    wheel = Wheel(words[1])
+    with open(words[1], "rb") as it:
+        wheel = Wheel(tomllib.load(it))
     if words[0] == "exact":
         instants = instants_of(wheel, words[2], dict(zip(CHANNELS, words[3:])))
         print("\n".join(" ".join(line) for line in lines(wheel, instants)[1]))

@@ -128,7 +128,7 @@ def told_of_bytes(b):
 
 
 def walked(fields, instants):
-    """The verdict, the state after it, and the number of entries read, of each instant in turn."""
+    """The verdict, the state after it, the number of entries read, and whether the next window has an instant, of each in turn."""
     times, ratios = [cut for (cut,) in fields.entries(3)], [Fraction(*cut) for cut in fields.entries(4)]
     kinds, state, passed, has_begun = fields.entries(5), 1, [], False
     for time, edges in instants:
@@ -154,4 +154,33 @@ def walked(fields, instants):
             has_begun = True
         passed += [time] if has_begun and "crank" in edges else []
         state = state or 1
-        yield verdict, state, reads
+        yield verdict, state, reads, has_begun
+
+
+def cut(number):
+    return max(-(2**31), min(number, 2**31 - 1))
+
+
+def taken_back(fields, place, counts):
+    """The text of a place taken back by these numbers of edges of each channel."""
+    each = [len(fields.wheel().edges[c]) for c in CHANNELS]
+    cycle, j = divmod(place[0] - counts[0], each[0])
+    return "%d:%d:%d" % (j, *(cut(n - counts[k] - cycle * each[k]) for k, n in enumerate(place[1:], 1)))
+
+
+def reported(fields, instants):
+    """The lines of the walk's report."""
+    window, places = [], fields.entries(2)
+    for index, ((time, edges), step) in enumerate(zip(instants, walked(fields, instants)), 1):
+        window.append(edges)
+        counts = [sum(c in seen for seen in window) for c in CHANNELS]
+        kind, a, b = step[0]
+        told = (
+            "lost",
+            "at %d slot %d" % (a, fields.wheel().edges["crank"][a][0]) if kind == 1 else "",
+            "open %s %s" % tuple(taken_back(fields, places[e], counts) for e in (a, b)) if kind == 2 else "",
+        )[kind]
+        shape = "".join(name + edges[c] for c, name in zip(CHANNELS, "C12") if c in edges)
+        yield "%d %d %s %s" % (index, time, shape, told)
+        if kind == 0:
+            window = [edges] if step[3] else []

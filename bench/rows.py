@@ -3,15 +3,17 @@
 
 usage: bench/rows.py TABLE | diff TABLE -
 
-Rows of sizes in crates/wheel_rows/stdin and all of crates/image_rows/stdin are told anew, and a named image is made anew from the
-line before it, `-- image SLOTS | PARTS:`. Other lines are printed as they stand.
+Rows of sizes in crates/wheel_rows/stdin and all of crates/image_rows/stdin and crates/draw_rows/stdin are told anew, and a named
+image is made anew from the line before it, `-- image SLOTS | PARTS:`. Other lines are printed as they stand.
 """
 import re
 import sys
 from itertools import groupby
 
-from images import Fields, told_of_bytes, walked
+from audits import told_of_audit
+from images import Fields, reported, told_of_bytes, walked
 from reference import CHANNELS, Wheel
+from stimulus import Generator, told as told_of_stimulus, totals as totals_of_stimulus
 from tables import MOST, image, size
 
 KINDS = ("dead", "at %d", "open %d %d")
@@ -68,13 +70,21 @@ def told_of_flips(b, mask):
     return ", ".join("%s %d/%d" % (told, *group) for told, group in groups.items())
 
 
-def told_of_walk(b, text):
+def instants_of(text):
     instants = []
     for crank, cam1, cam2, time, unit in re.findall(r"(?:C(.))?(?:1(.))?(?:2(.))? (-?\d+)(ms|fs)", text):
         edges = {c: polarity for c, polarity in zip(CHANNELS, (crank, cam1, cam2)) if polarity}
         instants.append((int(time) * UNITS[unit], edges))
-    steps = [(told_of_kind(*verdict), state, reads) for verdict, state, reads in walked(Fields(b), instants)]
+    return instants
+
+
+def told_of_walk(b, text):
+    steps = [(told_of_kind(*verdict), state, reads) for verdict, state, reads, _ in walked(Fields(b), instants_of(text))]
     return "; ".join("%s in %d by %d" % step for step in steps).replace("dead", "lost")
+
+
+def told_of_report(b, text):
+    return "; ".join(reported(Fields(b), instants_of(text)))
 
 
 def told_of_kind(kind, a, b):
@@ -132,20 +142,32 @@ def refusal(told):
     return told.replace("limit: states", "TooLarge") if told.startswith("limit") else None
 
 
+def told_of_draws(of, ranges):
+    """The numbers drawn from ranges by the generator of a seed and a stream."""
+    generator = Generator(*map(int, of.split()))
+    return " ".join(str(generator.draw(*map(int, pair.split("-")))) for pair in ranges.split())
+
+
 def told_of(kind, fields):
     """What is told of a row, or None where these computations tell nothing of its kind."""
+    if kind == "draws":
+        return told_of_draws(*fields)
+    if kind in ("instants", "totals"):
+        tells = {"instants": told_of_stimulus, "totals": totals_of_stimulus}[kind]
+        return tells(wheel_of(*fields[:2]), *map(int, fields[2].split()))
     if kind == "size":
         return size(wheel_of(*fields[:2]), int(fields[2]))
     if kind in ("compile", "sums"):
         return {"compile": told_of_compiled, "sums": told_of_sums}[kind](*fields)
-    if kind in ("verify", "prefixes", "fields"):
-        return {"verify": told_of_bytes, "prefixes": told_of_prefixes, "fields": told_of_fields}[kind](image_of(*fields))
-    if kind in ("flips", "walk", "state"):
+    if kind in ("verify", "prefixes", "fields", "audit"):
+        tells = {"verify": told_of_bytes, "prefixes": told_of_prefixes, "fields": told_of_fields, "audit": told_of_audit}
+        return tells[kind](image_of(*fields))
+    if kind in ("flips", "walk", "report", "state"):
         b = image_of(*fields[1:])
         fault = told_of_bytes(b)
         if fault != "image":
             return fault
-        tells = {"flips": told_of_flips, "walk": told_of_walk, "state": lambda b, state: told_of_state(b, int(state))}
+        tells = {"flips": told_of_flips, "walk": told_of_walk, "report": told_of_report, "state": lambda b, state: told_of_state(b, int(state))}
         return tells[kind](b, fields[0])
     return None
 

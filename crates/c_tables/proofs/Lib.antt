@@ -5,3 +5,4 @@ mod EntryValues
 mod EntryParts
 mod EntrySlots
 mod Pieces
+pub mod Gaps

@@ -22,7 +22,7 @@ after_begun in_block_comment b rest h = absurd (false≢true h)
 after_begun closing b rest h = absurd (false≢true h)
 
 -- a byte with which a token goes on begins none
-none_begun : (mode : Mode) (b : ℕ) (rest : List ℕ) → goes_on mode b rest ≡ true → begins_token mode b rest ≡ false
+pub none_begun : (mode : Mode) (b : ℕ) (rest : List ℕ) → goes_on mode b rest ≡ true → begins_token mode b rest ≡ false
 none_begun outside b rest h = absurd (false≢true h)
 none_begun in_word b rest h = ap (λ word. not word && not (begins_gap b rest)) h
 none_begun (in_text mark escaped) b rest h = refl
@@ -32,7 +32,7 @@ none_begun in_block_comment b rest h = refl
 none_begun closing b rest h = refl
 
 -- where a token begins it stands in front of the tokens from the next byte on
-byte_begun : (mode : Mode) (at b : ℕ) (rest : List ℕ) → begins_token mode b rest ≡ true
+pub byte_begun : (mode : Mode) (at b : ℕ) (rest : List ℕ) → begins_token mode b rest ≡ true
     → tokens_from mode at (b ∷ rest) ≡ token_from at b rest ∷ tokens_from (opened b rest) (at + 1) rest
 byte_begun mode at b rest h =
     ap (λ begins. (if begins then token_from at b rest ∷ [] else []) ++ tokens_from (mode_after mode b rest) (at + 1) rest) h

@@ -5,3 +5,4 @@ pub mod Tables
 pub mod Kept
 pub mod TokenLaws
 pub mod Slots
+pub mod Gaps

@@ -12,4 +12,4 @@ mod tokens;
 pub use fault::TableFault;
 pub use slots::slots_line;
 pub use table::read_table;
-pub use token_laws::tokens_are_pieces;
+pub use token_laws::{sources_are_laid, tokens_are_pieces};

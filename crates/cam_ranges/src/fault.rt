@@ -3,13 +3,17 @@ ghost use Rattle.std.specs.Prelude.{◌≡◌};
 ghost use Rattle.cam_ranges.specs.declared.fault.PlaceFault.TheVariants.{Memory as WantsMemory};
 
 use std::alloc::AllocFailed;
+use thiserror::Error;
 use wheel_types::Memory;
 
 /// Why there is no list of all places.
-#[derive(Clone, Copy, Debug, PartialEq, Eq)]
+#[derive(Clone, Copy, Debug, PartialEq, Eq, Error)]
 pub enum PlaceFault {
     /// The wheel has more than 16,384 places.
+    #[error("limit: places")]
     TooMany,
+    /// Want of memory.
+    #[error("want of memory")]
     Memory,
 }
 

@@ -1,8 +1,10 @@
--- The options of a replay: the names of a capture's columns.
+-- The options of a command: the names of a capture's columns, and the file of a certificate.
 use Rattle.std.specs.Prelude.{ℕ, List, codes, Some, None, option_map, if◌then◌else◌}
 use Rattle.std.specs.declared.option.Option.{Option}
 use Rattle.command_words.specs.declared.options.OptionName.{OptionName}
 use Rattle.command_words.specs.declared.options.OptionName.TheVariants.{Time, Crank, Cam1, Cam2}
+use Rattle.command_words.specs.declared.options.Wanted.{Wanted}
+use Rattle.command_words.specs.declared.options.Wanted.TheVariants.{Name, Cert}
 use Rattle.command_words.specs.declared.options.Options.{Options as Given}
 use Rattle.command_words.specs.Same.{same}
 
@@ -29,6 +31,10 @@ option_named word =
     else if same word (codes "--cam1") then Some Cam1
     else if same word (codes "--cam2") then Some Cam2
     else None
+
+-- what the option that a word names wants: the file of a certificate, or a name of the capture's columns
+abbrev pub wanted_by : List ℕ → Option Wanted
+wanted_by word = if same word (codes "--cert") then Some Cert else option_map (λ name. Name name) (option_named word)
 
 -- a value where none was before
 abbrev pub once : Option (List ℕ) → List ℕ → Option (Option (List ℕ))

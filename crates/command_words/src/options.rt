@@ -1,7 +1,7 @@
 //! The options that name a capture's columns.
 ghost use Rattle.std.specs.Prelude.{◌≡◌};
 ghost use Rattle.std.specs.Option.{option_map};
-ghost use Rattle.command_words.specs.Options.{options_of, no_options, option_named, with_option, once};
+ghost use Rattle.command_words.specs.Options.{options_of, no_options, option_named, wanted_by, with_option, once};
 
 /// An option's name.
 #[derive(Clone, Copy, Debug, PartialEq, Eq)]
@@ -14,6 +14,15 @@ pub enum OptionName {
     Cam1,
     /// `--cam2`, the second cam's signal.
     Cam2,
+}
+
+/// What an option that stands in the words wants of the next word.
+#[derive(Clone, Copy, Debug, PartialEq, Eq)]
+pub enum Wanted {
+    /// A name of the capture's columns.
+    Name { name: OptionName },
+    /// `--cert`, the file that is to get the certificate.
+    Cert,
 }
 
 /// The names of a capture's columns that options give.
@@ -39,6 +48,19 @@ pub fn option_name(word: &str) -> Option<OptionName>
         Some(OptionName::Cam2)
     } else {
         None
+    }
+}
+
+/// What the option that a word names wants.
+pub fn asked_by(word: &str) -> Option<Wanted>
+    ensures { result ≡ wanted_by word.now }
+{
+    if word == "--cert" {
+        return Some(Wanted::Cert);
+    }
+    match option_name(word) {
+        Some(name) => Some(Wanted::Name { name }),
+        None => None,
     }
 }
 

@@ -2,11 +2,11 @@
 ghost use Rattle.std.specs.Prelude.{◌≡◌, map, string_bytes};
 ghost use Rattle.std.specs.Option.{option_map};
 ghost use Rattle.command_words.specs.Same.{is_option as begins_with_dashes, is_operand as names_something};
-ghost use Rattle.command_words.specs.Spoken.{spoken_of, silence, with_word, with_operand as with_one_more, after_word, after_words};
+ghost use Rattle.command_words.specs.Spoken.{spoken_of, silence, with_word, with_operand as with_one_more, with_value as with_its_value, after_word, after_words};
 
-use crate::options::{OptionName, Options, option_name};
+use crate::options::{Options, Wanted, asked_by};
 
-/// What the words give so far: the operands in order, the options, and the option that still wants its value.
+/// What the words give so far: the operands in order, the options, the file of a certificate, and what still wants its value.
 #[derive(Clone, Copy, Debug)]
 pub struct Spoken<'a> {
     pub first: Option<&'a str>,
@@ -14,7 +14,8 @@ pub struct Spoken<'a> {
     pub third: Option<&'a str>,
     pub fourth: Option<&'a str>,
     pub options: Options<'a>,
-    pub wants: Option<OptionName>,
+    pub cert: Option<&'a str>,
+    pub wants: Option<Wanted>,
 }
 
 /// Whether a word begins with two dashes.
@@ -64,9 +65,9 @@ impl<'a> Spoken<'a> {
         ensures { option_map spoken_of result ≡ with_word (spoken_of self.entry) word.now }
     {
         if is_option(word) {
-            match option_name(word) {
-                Some(name) => Some(Spoken {
-                    wants: Some(name),
+            match asked_by(word) {
+                Some(wants) => Some(Spoken {
+                    wants: Some(wants),
                     ..self
                 }),
                 None => None,
@@ -78,13 +79,12 @@ impl<'a> Spoken<'a> {
         }
     }
 
-    /// One more word.
-    fn after(self, word: &'a str) -> Option<Spoken<'a>>
-        ensures { option_map spoken_of result ≡ after_word (spoken_of self.entry) self.entry.wants word.now }
+    /// The value of an option that wants it, or nothing where the option was given before.
+    fn with_value(self, wants: Wanted, word: &'a str) -> Option<Spoken<'a>>
+        ensures { option_map spoken_of result ≡ with_its_value (spoken_of self.entry) wants word.now }
     {
-        match self.wants {
-            None => self.with_word(word),
-            Some(name) => match self.options.with(name, word) {
+        match wants {
+            Wanted::Name { name } => match self.options.with(name, word) {
                 Some(options) => Some(Spoken {
                     options,
                     wants: None,
@@ -92,6 +92,26 @@ impl<'a> Spoken<'a> {
                 }),
                 None => None,
             },
+            Wanted::Cert => {
+                if self.cert.is_some() {
+                    return None;
+                }
+                Some(Spoken {
+                    cert: Some(word),
+                    wants: None,
+                    ..self
+                })
+            }
+        }
+    }
+
+    /// One more word.
+    fn after(self, word: &'a str) -> Option<Spoken<'a>>
+        ensures { option_map spoken_of result ≡ after_word (spoken_of self.entry) self.entry.wants word.now }
+    {
+        match self.wants {
+            None => self.with_word(word),
+            Some(wants) => self.with_value(wants, word),
         }
     }
 }
@@ -106,6 +126,7 @@ pub fn hear(words: &[String]) -> Option<Spoken<'_>>
         third: None,
         fourth: None,
         options: Options::none(),
+        cert: None,
         wants: None,
     };
     for word in words {

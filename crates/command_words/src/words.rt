@@ -1,7 +1,7 @@
 //! The words of a command.
-ghost use Rattle.std.specs.Prelude.{◌≡◌, map, string_bytes};
+ghost use Rattle.std.specs.Prelude.{◌≡◌, ◌≢◌, IsTrue, IfSome, map, string_bytes};
 ghost use Rattle.std.specs.Option.{option_map};
-ghost use Rattle.command_words.specs.Words.{command_of, replay_by, import_by, size_by, check_by, differ, order_of};
+ghost use Rattle.command_words.specs.Words.{command_of, replay_by, import_by, size_by, compile_by, check_by, apart, differ, order_of, AreApart};
 
 use crate::options::Options;
 use crate::spoken::{hear, is_operand};
@@ -9,10 +9,12 @@ use crate::spoken::{hear, is_operand};
 /// A command with its operands and options.
 #[derive(Clone, Copy, Debug)]
 pub enum Command<'a> {
-    /// Replays the capture of one file over the model of another. The names differ.
+    /// Replays the capture of one file over the model of another; `cert`, where it is given, is the file that gets the report's
+    /// certificate. The names differ.
     Replay {
         model: &'a str,
         capture: &'a str,
+        cert: Option<&'a str>,
         options: Options<'a>,
     },
     /// Checks the certificate of one file for the report of another, over a wheel and a capture. The names differ.
@@ -32,11 +34,28 @@ pub enum Command<'a> {
     Size {
         wheel: &'a str,
     },
+    /// Compiles the wheel of one file into an image, which another file gets. The names differ.
+    Compile {
+        wheel: &'a str,
+        image: &'a str,
+    },
+}
+
+/// Whether the file names of a replay differ.
+fn are_apart(model: &str, capture: &str, cert: Option<&str>) -> bool
+    ensures value { result ≡ apart model.now capture.now (option_map (λ s. s.now) cert.entry) }
+    ensures differ { IsTrue result → IfSome cert.entry (λ cert. (model.now ≢ cert.now) × (capture.now ≢ cert.now)) }
+{
+    match cert {
+        None => model != capture,
+        Some(cert) => model != capture && model != cert && capture != cert,
+    }
 }
 
 /// The replay that its words give.
 fn read_replay(words: &[String]) -> Option<Command<'_>>
-    ensures { option_map order_of result ≡ replay_by (map string_bytes words.now) }
+    ensures order { option_map order_of result ≡ replay_by (map string_bytes words.now) }
+    ensures apart { IfSome result (λ command. AreApart (order_of command)) }
 {
     let spoken = match hear(words) {
         Some(spoken) => spoken,
@@ -47,12 +66,13 @@ fn read_replay(words: &[String]) -> Option<Command<'_>>
     }
     match (spoken.first, spoken.second) {
         (Some(model), Some(capture)) => {
-            if model == capture {
+            if !are_apart(model, capture, spoken.cert) {
                 return None;
             }
             Some(Command::Replay {
                 model,
                 capture,
+                cert: spoken.cert,
                 options: spoken.options,
             })
         }
@@ -77,7 +97,7 @@ fn read_check(words: &[String]) -> Option<Command<'_>>
         Some(spoken) => spoken,
         None => return None,
     };
-    if spoken.wants.is_some() {
+    if spoken.cert.is_some() || spoken.wants.is_some() {
         return None;
     }
     match (spoken.first, spoken.second, spoken.third, spoken.fourth) {
@@ -127,12 +147,28 @@ fn read_size(words: &[String]) -> Option<Command<'_>>
     }
 }
 
+/// The compile that its words give.
+fn read_compile(words: &[String]) -> Option<Command<'_>>
+    ensures { option_map order_of result ≡ compile_by (map string_bytes words.now) }
+{
+    let [wheel, image] = words else {
+        return None;
+    };
+    let (wheel, image) = (wheel.as_str(), image.as_str());
+    if is_operand(wheel) && is_operand(image) && wheel != image {
+        Some(Command::Compile { wheel, image })
+    } else {
+        None
+    }
+}
+
 /// The command that the words after the program's name give, or nothing where they are none.
 ///
 /// An operand is not empty and does not begin with two dashes. An option may stand anywhere past the command, at most once, and the next
 /// word is its value, whatever that is.
 pub fn read_command(words: &[String]) -> Option<Command<'_>>
-    ensures { option_map order_of result ≡ command_of (map string_bytes words.now) }
+    ensures order { option_map order_of result ≡ command_of (map string_bytes words.now) }
+    ensures apart { IfSome result (λ command. AreApart (order_of command)) }
 {
     let Some((command, operands)) = words.split_first() else {
         return None;
@@ -146,6 +182,8 @@ pub fn read_command(words: &[String]) -> Option<Command<'_>>
         read_size(operands)
     } else if command == "check" {
         read_check(operands)
+    } else if command == "compile" {
+        read_compile(operands)
     } else {
         None
     }

@@ -1,10 +1,11 @@
 -- The gaps of a wheel, and the cuts that its limits make. Crank edges are counted on through all cycles.
-use Rattle.std.specs.Prelude.{◌≡◌, ◌⊎◌, ℕ, ◌+◌, ◌*◌, ℤ, pos, ◌+ℤ◌}
+use Rattle.std.specs.Prelude.{◌≡◌, ◌↔◌, ◌⊎◌, ℕ, ◌+◌, ◌*◌, ℤ, pos, ◌+ℤ◌, List}
+use Rattle.std.specs.List.{Contains}
 use Rattle.wheel_types.specs.declared.parts.WheelParts.{WheelParts}
 use Rattle.wheel_types.specs.Motions.{slots_between}
 use Rattle.motion_bounds.specs.Times.{least_of, greatest_of}
 use Rattle.gap_thresholds.specs.declared.cut.Cut.{Cut}
-use Rattle.gap_thresholds.specs.Fractions.{IsLowest, IsEqual}
+use Rattle.gap_thresholds.specs.Fractions.{Ascend, IsLowest, IsEqual}
 
 -- so many slots are from one crank edge to the next
 abbrev pub IsGap : WheelParts → ℕ → Type 0
@@ -29,3 +30,10 @@ IsCutOfGaps w s0 s1 c = IsLowest c × (IsEqual c (s1 * w.rd) (s0 * w.rn) ⊎ IsE
 -- a ratio cut
 abbrev pub IsRatioCut : WheelParts → Cut → Type 0
 IsRatioCut w c = (s0 : ℕ) × ((s1 : ℕ) × (AreGaps w s0 s1 × IsCutOfGaps w s0 s1 c))
+
+-- these are exactly the time cuts of a wheel and its ratio cuts, each once and in order
+pub record AreAllCuts (w : WheelParts) (times ratios : List Cut) : Type 0 where
+  pub times_are : (k : Cut) → Contains times k ↔ IsTimeCut w k
+  pub times_ascend : Ascend times
+  pub ratios_are : (k : Cut) → Contains ratios k ↔ IsRatioCut w k
+  pub ratios_ascend : Ascend ratios

@@ -4,7 +4,7 @@ ghost use Rattle.wheel_types.specs.Motions.{KeepsSpeed, KeepsRatio};
 ghost use Rattle.edge_angles.specs.EdgeTables.{AreEdgesOf};
 ghost use Rattle.gap_thresholds.specs.declared.cut.Cut.{Cut as Fraction};
 ghost use Rattle.gap_thresholds.specs.Fractions.{IsSmall};
-ghost use Rattle.gap_thresholds.specs.Gaps.{IsGap, AreGaps};
+ghost use Rattle.gap_thresholds.specs.Gaps.{IsGap, AreGaps, AreAllCuts};
 
 use crate::ascending::Ascending;
 use crate::cut::Cut;
@@ -26,6 +26,7 @@ pub struct Cuts {
     pub ghost few_times: { length times.cuts.items ≤ 8192 },
     pub ghost few_ratios: { length ratios.cuts.items ≤ 8192 },
     pub ghost small: { All IsSmall ratios.cuts.items },
+    pub ghost all: { ∥ AreAllCuts wheel.parts times.cuts.items ratios.cuts.items ∥₁ },
 }
 
 /// Whether a class is from one to another.

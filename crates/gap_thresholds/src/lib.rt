@@ -7,5 +7,7 @@ mod cut;
 mod cuts;
 mod divisor;
 mod gaps;
+mod laws;
 
 pub use cuts::Cuts;
+pub use laws::cuts_are_their_wheels;

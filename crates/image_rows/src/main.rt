@@ -6,26 +6,32 @@
 //! `fields | IMAGE` tells what the image has in all: its counts; the slots of its crank edges; how many edges of the cams are kept; its
 //! places; its cuts; the parts of its wheel. `state | NUMBER | IMAGE` tells of a state its phase, kind, members and the entries of its
 //! row that are not 0, each after its column. `walk | INSTANTS | IMAGE` tells of each instant the verdict, the state after it, and how
-//! many entries were read. `compile | SLOTS | PARTS | IMAGE` tells whether a wheel is compiled to these very bytes, and
+//! many entries were read, and `report | INSTANTS | IMAGE` the lines of its report. `compile | SLOTS | PARTS | IMAGE` tells whether a wheel is compiled to these very bytes, and
 //! `sums | SLOTS | PARTS | LIMIT` of the bytes that it is compiled to within a limit on its states their number, their sum, and the sum
 //! of each one times its place and one; both tell why there are none. Slots and parts are those of the program wheel_rows.
+//!
+//! `audit | IMAGE` tells the states and places of an image that holds the table of its own wheel, or the first difference.
 //!
 //! An image is bytes in hexadecimal, in which `3*00` is `000000` and blanks say nothing. It may be followed by changes, as in
 //! `verify | IMAGE | first=100 and=00 8=6500`: its first 100 bytes alone, then a byte 0 at the end, and then two other bytes from
 //! byte 8 on. Instants are as `C+1- 15ms`, with a comma and a blank between two of them.
 #![tactic(auto)]
 
+mod audits;
 mod bytes;
 mod faults;
 mod fields;
+mod reports;
 mod states;
 mod walks;
 mod wheels;
 
+use audits::told_of_audit;
 use bytes::image_of;
 use faults::{text_of_fault, told_of_flips, told_of_prefixes};
 use fields::told_of_fields;
 use image_format::View;
+use reports::told_of_report;
 use rows::{Tells, check};
 use states::told_of_state;
 use std::alloc::{AllocError, Global};
@@ -43,9 +49,11 @@ struct Images;
 /// What is told of an image, where a kind asks for a text or a number beside it.
 fn told_of_view(alloc: Global, kind: &str, asked: &str, view: &View<'_>) -> Told {
     match kind {
+        "audit" => told_of_audit(alloc, view),
         "fields" => told_of_fields(alloc, view),
         "state" => told_of_state(alloc, view, asked),
         "walk" => told_of_walk(alloc, view, asked),
+        "report" => told_of_report(alloc, view, asked),
         _ => Ok(None),
     }
 }
@@ -77,7 +85,7 @@ impl Tells for Images {
             return Ok(None);
         };
         match (kind.as_str(), rest) {
-            (kind @ ("verify" | "prefixes" | "fields"), image) => {
+            (kind @ ("verify" | "prefixes" | "audit" | "fields"), image) => {
                 told_of_image(alloc, kind, "", image)
             }
             ("compile", [slots, parts, image @ ..]) => {

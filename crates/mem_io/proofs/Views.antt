@@ -109,7 +109,8 @@ creates_ok i o ways ways' st st' names names' contents contents' files files' pl
       no_slot = tt;
       tells = refl;
       steady = calm;
-      emptied = λ h. (emptied, ap (λ (p : Position). p.name) added);
+      emptied = λ h. emptied;
+      place = λ h. added;
       other_files = λ h. others;
       unmade = λ h. tt;
       others = λ h t l. ap (λ l. position_in names' l places' t) ef ∙ ap (λ l. position_in names' (files ++ file ∷ []) l t) ep

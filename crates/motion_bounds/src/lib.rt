@@ -5,4 +5,4 @@ mod bounds;
 mod laws;
 
 pub use bounds::{greatest_time, keeps_ratio, keeps_speed, least_time, ratio_ok, speed_ok};
-pub use laws::times_are_between;
+pub use laws::{times_are_between, times_fit};

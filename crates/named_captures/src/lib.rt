@@ -3,4 +3,4 @@
 
 mod named;
 
-pub use named::{load_clean, load_named};
+pub use named::{load_clean, load_named, read_named};

@@ -5,17 +5,18 @@ ghost use Rattle.edge_angles.specs.EdgeTables.{AreEdgesOf};
 ghost use Rattle.command_words.specs.Options.{options_of};
 ghost use Rattle.run_ends.specs.Loads.{Loads};
 ghost use Rattle.run_files.specs.Causes.{FileGives};
-ghost use Rattle.named_captures.specs.Captures.{HasNames, HasNamedCapture, HasCleanCapture, CleanGives, named, watched, watch_of};
+ghost use Rattle.named_captures.specs.Captures.{HasNames, IsCapture, HasNamedCapture, HasCleanCapture, CleanGives, named, watched, watch_of};
 ghost use Rattle.capture_core.specs.declared.capture.End.{End as Ending};
 
 use capture_core::{Capture, Names, Watch};
+use capture_file::read_capture;
 use command_words::Options;
 use edge_angles::Edges;
 use run_ends::Cause;
 use run_files::{ended, load_capture};
 use shelf_io::Shelf;
 use std::alloc::{AllocError, Global};
-use wheel_types::{Channel, Keep, Wheel};
+use wheel_types::{Channel, Keep, Memory, Wheel};
 
 /// A name that an option gives, or the usual one.
 fn name_or(alloc: Global, given: Option<&str>, usual: &str) -> Result<String, AllocError>
@@ -84,6 +85,27 @@ fn watch_for(wheel: &Wheel, edges: &Edges, options: Options<'_>) -> Watch
         cam1,
         cam2,
     }
+}
+
+/// The capture of a file's bytes over a wheel, by the names that options give, as `load_named` reads it of a file. It asks the wheel's
+/// edges.
+///
+/// # Errors
+/// Want of memory.
+pub fn read_named(
+    alloc: Global,
+    bytes: &[u8],
+    options: Options<'_>,
+    wheel: &Wheel,
+    edges: &Edges,
+) -> Result<Capture, Memory>
+    requires edges { AreEdgesOf wheel.now.parts edges.now }
+    ensures capture { IfOk result (IsCapture wheel.now.parts (options_of options.entry) bytes.now) }
+    ensures rising { IfOk result (λ c. IsRising c.instants) }
+    ensures within { IfOk result (λ c. AreWithin (10 ^ 24) c.instants) }
+{
+    let names = names_of(alloc, options)?;
+    read_capture(alloc, bytes, &names, watch_for(wheel, edges, options))
 }
 
 /// Reads the capture of a file over a wheel. Its columns or signals have the names that options give, or `crank`, `cam1` and `cam2`; a cam

@@ -1,12 +1,11 @@
 -- What a window keeps, and what it stands for.
 use Rattle.std.specs.Prelude.{◌≡◌, ◌≢◌, ℕ, ◌<◌, ℤ, take, List, [], ◌∷◌, map, All, Contains, ◌↔◌, Option, Some, None}
-use Rattle.std.specs.Prelude.{Bool, true, false, IsTrue, ⊤}
+use Rattle.std.specs.Prelude.{Bool, true, false, ⊤}
 use Rattle.wheel_types.specs.declared.place.Place.{Place}
 use Rattle.wheel_types.specs.declared.instant.Instant.{Instant}
 use Rattle.wheel_types.specs.declared.parts.WheelParts.{WheelParts}
 use Rattle.wheel_types.specs.Verdicts.{Leads, IsBefore}
-use Rattle.wheel_types.specs.Steps.{indices_of, crank_times}
-use Rattle.wheel_types.specs.PlainSteps.{is_standing}
+use Rattle.wheel_types.specs.Steps.{IsStanding, indices_of, crank_times}
 use Rattle.wheel_types.specs.Edges.{edge_count}
 use Rattle.wheel_types.specs.declared.channel.Channel.TheVariants.{Crank}
 use Rattle.cam_ranges.specs.Places.{IsPlace, IsAscending}
@@ -16,10 +15,10 @@ use Rattle.legal_steps.specs.TimedSteps.{IsTimedStep}
 use Rattle.plain_motion.specs.declared.window.Walk.{Walk}
 use Rattle.plain_motion.specs.declared.window.Window.{Window}
 
--- the place is one of the wheel, by a test
+-- the place is one of the wheel, and no more than that is said: which angle stands with it is left out
 pub record IsTestedPlace (w : WheelParts) (p : Place) : Type 0 where
   pub edge : p.j < edge_count w Crank
-  pub standing : IsTrue (is_standing w (indices_of p))
+  pub standing : ∥ IsStanding w (indices_of p) ∥₁
 
 -- these are all places of the wheel, ascending
 abbrev pub AreAllPlaces : WheelParts → List Place → Type 0

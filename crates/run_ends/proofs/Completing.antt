@@ -1,11 +1,13 @@
 -- How work ends, by its parts.
-use Rattle.std.proofs.Common.{◌≡◌, ℕ, ◌⊎◌, inl, inr, List, [], Option, None, Some, Result, Ok, Err, refl, sym, ◌∙◌, subst, ap}
+use Rattle.std.proofs.Common.{◌≡◌, ℕ, ◌⊎◌, inl, inr, List, [], None, Some, Result, Ok, Err, sym, ◌∙◌, subst}
 use Rattle.std.specs.Prelude.{IsTrue}
 use Rattle.shelf_traits.specs.Shelf.{View}
 use Rattle.run_ends.specs.declared.cause.Done.{Done}
+use Rattle.run_ends.specs.declared.cause.Done.TheVariants as done
 use Rattle.run_ends.specs.declared.cause.Cause.{Cause}
 use Rattle.run_ends.specs.declared.cause.Cause.TheVariants as cause
 use Rattle.run_ends.specs.Works.{Work, Told, Reads, Judges, Writes, HandsOn, StopsOpen, StopsRead, StopsJudge, StopsWrite, stopped, Went}
+use Rattle.run_ends.specs.Stages.{Makes, HasMade}
 
 -- a fact of the end, by the ways in which a file can go
 pub reads_end : {X : Type 0} (v : View) (name : List ℕ) (gives : Cause → Type 0) (accepts : X → Type 0) (next : X → Work → Type 0) (P : Result Done Cause → Type 0) (work : Work)
@@ -117,3 +119,12 @@ reads_not_usage v name gives accepts next work go r =
 
 pub writes_not_usage : (due : List ℕ → Result Done Cause → Type 0) (work : Work) → ((text : List ℕ) (end : Result Done Cause) → due text end → end ≡ Err cause.Usage → ⊥) → Writes due work → work.end ≡ Err cause.Usage → ⊥
 writes_not_usage due work whole r = writes_end due (λ end. end ≡ Err cause.Usage → ⊥) work whole (λ e s. not_cause e (write_not_usage e s)) r
+
+-- a file that is made of a text
+pub makes_end : (name : List ℕ) (due : List ℕ → Type 0) (P : Result Done Cause → Type 0) (work : Work) → P (Ok done.Whole) → ((e : Cause) → StopsWrite e → P (Err e)) → Makes name due work → P work.end
+makes_end name due P work whole stop m = by m.made
+  where
+    by : HasMade name m.text work → P work.end
+    by (inl is) = subst (λ (k : Work). P k.end) (sym is) whole
+    by (inr (inl (e, (k, (s, (within, is)))))) = subst (λ (k : Work). P k.end) (sym is) (stop e s)
+    by (inr (inr (e, (s, is)))) = subst (λ (k : Work). P k.end) (sym is) (stop e s)

@@ -1,14 +1,12 @@
 -- What is loaded, taken further.
-use Rattle.std.proofs.Common.{◌≡◌, ℕ, ◌⊎◌, inl, inr, List, Option, None, Result, Ok, Err, subst, sym, ◌∙◌, arith}
-use Rattle.std.specs.Prelude.{IsTrue}
+use Rattle.std.proofs.Common.{◌≡◌, ℕ, inl, inr, List, Option, None, Result, Ok, Err, subst, ◌∙◌, arith}
 use Rattle.shelf_traits.specs.Count.{RoseWhere}
 use Rattle.shelf_traits.specs.Shelf.{View}
-use Rattle.run_ends.specs.declared.cause.Refusal.{Refusal}
 use Rattle.run_ends.specs.declared.cause.Cause.{Cause}
 use Rattle.run_ends.specs.declared.cause.Cause.TheVariants as cause
 use Rattle.shelf_io.specs.Touching.{Opened, Touches}
 use Rattle.run_ends.specs.Works.{Told, StopsOpen, StopsRead}
-use Rattle.run_ends.specs.Loads.{HasRead, Loads}
+use Rattle.run_ends.specs.Loads.{Loads}
 
 -- a count that stays where this is not so
 pub stays : (before now : ℕ) (fact : Type 0) → (fact → ⊥) → now ≡ before → RoseWhere fact before now

@@ -1,17 +1,20 @@
 -- Serving put together, one call after the other: a load that stops the work, one after which it goes on, and what is written at its end.
-use Rattle.std.proofs.Common.{◌≡◌, ℕ, ◌+◌, ◌≤◌, ◌⊎◌, inl, inr, List, [], ◌∷◌, take, length, Option, None, Some, Result, Ok, Err, refl, sym, ap, ◌∙◌, subst, arith}
+use Rattle.std.proofs.Common.{◌≡◌, ℕ, ◌≤◌, ◌⊎◌, inl, inr, List, [], ◌∷◌, take, Option, None, Some, Result, Ok, Err, refl, sym, ap, ◌∙◌, subst, arith}
 use Rattle.std.specs.Prelude.{IsTrue, ⊤}
-use Rattle.std.specs.Io.KnownBytes.{Appends, Keeps}
+use Rattle.std.specs.Io.KnownBytes.{Appends}
 use Rattle.std.proofs.KnownBytes.{Appends-nil, Appends-kept}
 use Rattle.shelf_traits.specs.Count.{Rose, RoseWhere}
 use Rattle.shelf_traits.specs.Shelf.{View}
 use Rattle.run_ends.specs.declared.cause.Done.{Done}
+use Rattle.run_ends.specs.declared.cause.Done.TheVariants as done
 use Rattle.run_ends.specs.declared.cause.Cause.{Cause}
 use Rattle.run_ends.specs.declared.cause.Cause.TheVariants as cause
 use Rattle.run_ends.specs.Prefixes.{AppendsPrefix}
-use Rattle.shelf_io.specs.Touching.{Touches, RoseOut}
+use Rattle.shelf_io.specs.Touching.{RoseOut}
 use Rattle.run_ends.specs.Works.{Work, Told, Reads, Judges, Writes, HandsOn, StopsOpen, StopsRead, StopsJudge, StopsWrite, stopped, read_slot, after}
 use Rattle.run_ends.specs.Loads.{HasRead, Loads}
+use Rattle.run_ends.specs.Stages.{Makes, write_slot}
+use Rattle.run_ends.specs.Filing.{HasText, HasFront, NotCreated}
 use Rattle.run_ends.specs.Serving.{Stream, Served, Handed}
 use Rattle.run_ends.proofs.Noting.{rose_before, rose_later}
 use Rattle.shelf_io.proofs.Touching.{touches_after, touches_lifted, untouched}
@@ -66,9 +69,9 @@ stops t v w name gives accepts next writes out e (rose, inr (read, s)) = record 
   steady = λ h. h;
 }
 
-rose_out_before : (v u w : View) (writes : Option (List ℕ)) → u.faults_out ≡ v.faults_out → RoseOut u w writes → RoseOut v w writes
-rose_out_before v u w None same rose = rose
-rose_out_before v u w (Some name) same rose = subst (λ n. Rose n w.faults_out) same rose
+rose_out_before : (v u w : View) (writes : Option (List ℕ)) → u.faults_out ≡ v.faults_out → (IsTrue v.steady → IsTrue u.steady) → RoseOut u w writes → RoseOut v w writes
+rose_out_before v u w None same still failed = failed
+rose_out_before v u w (Some name) same still failed = record { rose = subst (λ n. Rose n w.faults_out) same failed.rose; unsteady = λ steady. failed.unsteady (still steady) }
 
 -- the work goes on past a file
 pub goes_on : {X : Type 0} (t v u w : View) (name : List ℕ) (gives : Cause → Type 0) (accepts : X → Type 0) (next : X → Work → Type 0) (x : X) (writes : Option (List ℕ)) (old new : Stream)
@@ -92,7 +95,7 @@ goes_on t v u w name gives accepts next x writes old new tails end read (a, same
   where
     by_write : Rose old.faults new.faults ⊎ RoseOut u w writes → Rose old.faults new.faults ⊎ RoseOut v w writes
     by_write (inl rose) = inl rose
-    by_write (inr rose) = inr (rose_out_before v u w writes read.touches.counts_out rose)
+    by_write (inr rose) = inr (rose_out_before v u w writes read.touches.counts_out read.touches.steady rose)
 
 -- ends that are no fault of reading or writing
 abbrev pub IsCalm : Result Done Cause → Type 0
@@ -173,6 +176,58 @@ wrote_front due writes v old new text end e d s (k, (within, a)) rose calm still
   calm = λ is steady files. let same : e ≡ cause.WriteFault = cc in calm same steady;
   later = rose.later;
   steady = still;
+}
+
+-- a file was made of a text that is due
+pub made : (name : List ℕ) (due : List ℕ → Type 0) (v w : View) (out : Stream) (text : List ℕ) → due text → HasText v w name text → Served (Makes name due) (Some name) v w out out [] (Ok done.Whole)
+made name due v w out text d h = record {
+  work = record { opened = write_slot name ∷ []; out = []; made = Some text; tails = []; end = Ok done.Whole };
+  allowed = record { text = text; is_due = d; made = inl refl };
+  ends = refl;
+  closes = refl;
+  out = Appends-nil out.taken;
+  shelf = h.touches;
+  read = λ is. absurd (calm_read (Ok done.Whole) tt is);
+  read_settled = λ n m. h.reads;
+  write = λ is. absurd (calm_write (Ok done.Whole) tt is);
+  write_settled = λ n. (refl, h.writes);
+  calm = λ is still steady. calm_write (Ok done.Whole) tt is;
+  later = omega arith;
+  steady = λ still. still;
+}
+
+-- it got a front of the text, or was not created
+pub not_made : (name : List ℕ) (due : List ℕ → Type 0) (v w : View) (out : Stream) (text : List ℕ) (e : Cause) → due text → HasFront v w name text e ⊎ NotCreated v w name e
+    → Served (Makes name due) (Some name) v w out out [] (Err e)
+not_made name due v w out text e d (inl h) = record {
+  work = record (stopped (write_slot name ∷ []) e) { made = Some (take h.got text) };
+  allowed = record { text = text; is_due = d; made = inr (inl (e, (h.got, (h.stopped.kinds, (h.within, refl))))) };
+  ends = refl;
+  closes = refl;
+  out = Appends-nil out.taken;
+  shelf = h.touches;
+  read = λ is. let same : e ≡ cause.ReadFault = cc in absurd (no_read e h.stopped.kinds same);
+  read_settled = λ n m. h.stopped.reads;
+  write = λ is. let same : e ≡ cause.WriteFault = cc in inr (h.stopped.fault same);
+  write_settled = λ n. (refl, h.stopped.settled (λ is. n (ap Err is)));
+  calm = λ is still steady. let same : e ≡ cause.WriteFault = cc in (h.stopped.fault same).unsteady steady;
+  later = omega arith;
+  steady = λ still. still;
+}
+not_made name due v w out text e d (inr h) = record {
+  work = stopped [] e;
+  allowed = record { text = text; is_due = d; made = inr (inr (e, (h.stopped.kinds, refl))) };
+  ends = refl;
+  closes = refl;
+  out = Appends-nil out.taken;
+  shelf = h.touches;
+  read = λ is. let same : e ≡ cause.ReadFault = cc in absurd (no_read e h.stopped.kinds same);
+  read_settled = λ n m. h.stopped.reads;
+  write = λ is. let same : e ≡ cause.WriteFault = cc in inr (h.stopped.fault same);
+  write_settled = λ n. (refl, h.stopped.settled (λ is. n (ap Err is)));
+  calm = λ is still steady. let same : e ≡ cause.WriteFault = cc in (h.stopped.fault same).unsteady steady;
+  later = omega arith;
+  steady = λ still. still;
 }
 
 -- work that stopped before anything was read or written

@@ -1,5 +1,5 @@
 -- What a command's work can come to, as relations that are put together: files that are read one after the other, and what is made of them.
-use Rattle.std.specs.Prelude.{◌≡◌, ◌≤◌, ◌⊎◌, ℕ, List, [], ◌∷◌, length, take, IsTrue, None, Some, Result, Ok, Err, ⊤}
+use Rattle.std.specs.Prelude.{◌≡◌, ◌≤◌, ◌⊎◌, ℕ, List, [], ◌∷◌, length, take, IsTrue, None, Result, Err, ⊤}
 use Rattle.std.specs.declared.option.Option.{Option}
 use Rattle.shelf_traits.specs.declared.shelf.Way.TheVariants as way
 use Rattle.shelf_traits.specs.Shelf.{View}

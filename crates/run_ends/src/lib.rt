@@ -3,6 +3,7 @@
 
 mod cause;
 mod ending;
+mod filing;
 mod lines;
 mod refused;
 mod status;
@@ -10,6 +11,7 @@ mod writing;
 
 pub use cause::{Cause, Done, Limit, Refusal};
 pub use ending::{finish, hand_on};
+pub use filing::{create_file, make_file, put_piece};
 pub use lines::{Line, note};
 pub use refused::{NoTable, NoWheel};
 pub use status::Status;

@@ -3,20 +3,26 @@
 //! Fields of a row are `replay OPTIONS | WHEEL | CAPTURE`; or `prefixes | WHEEL | CAPTURE` for all that the capture begins with; or
 //! `WORDS | FAILING | WHEEL | CAPTURE` where a call of the shelf, or a write on out or on notes, fails, or out is a stream that has room
 //! for so many bytes; or `WORDS | FAILING | WHEEL | CAPTURE | REPORT | CERT` over the files of a check; or `WORDS | REPORT` over the files
-//! beside the program, with the file of what out gets. A blank stands between two words, `~` for a blank in a word, and `�` in a file for
+//! beside the program, with the file of what out gets; or `WORDS | FAILING | WHEEL | IMAGE | WANTED` where words make the file `image`, with
+//! what it has before, and the file beside the program that has the wheel's image. A blank stands between two words, `~` for a blank in a word, and `�` in a file for
 //! the byte 255, which no text has. `long | WHEEL | CAPTURE | 9 × ROWS` is a replay of a capture that goes on with nine copies of rows,
-//! in which `%` stands for the copy's number from 0: how many lines the report has, and the last of them.
+//! in which `%` stands for the copy's number from 0: how many lines the report has, and the last of them. `certified | WORDS | FAILING |
+//! WHEEL | CAPTURE` is a replay that makes the file `cert`: what out got, what that file has, and how it ended.
 #![tactic(auto)]
 
+mod certificates;
 mod checks;
 mod examples;
+mod images;
 mod long;
 mod memory;
 mod prefixes;
 mod streams;
 
+use certificates::told_of_certified;
 use checks::told_of_check;
 use examples::told_of_files;
+use images::told_of_image;
 use long::told_of_long;
 use memory::{bytes_of, told_of_replay, told_of_words};
 use prefixes::told_of_prefixes;
@@ -42,12 +48,19 @@ impl Tells for Runs<'_> {
             [kind, wheel, front, copies] if kind.as_str() == "long" => {
                 told_of_long(alloc, wheel, front, copies)
             }
+            [kind, words, failing, wheel, capture] if kind.as_str() == "certified" => {
+                let files = (bytes_of(alloc, wheel)?, bytes_of(alloc, capture)?);
+                told_of_certified(alloc, words, failing, (&files.0, &files.1))
+            }
             [words, failing, wheel, capture] => {
                 let files = (bytes_of(alloc, wheel)?, bytes_of(alloc, capture)?);
                 match failing.strip_prefix("room ") {
                     Some(room) => told_of_stream(alloc, words, room, (&files.0, &files.1)),
                     None => told_of_words(alloc, words, failing, (&files.0, &files.1)),
                 }
+            }
+            [words, failing, wheel, before, wanted] => {
+                told_of_image(self.rt, words, failing, [wheel, before, wanted])
             }
             [words, failing, wheel, capture, report, cert] => {
                 told_of_check(alloc, words, failing, [wheel, capture, report, cert])

@@ -1,5 +1,5 @@
 // Whole files and whole texts, over any shelf and any sink.
-ghost use Rattle.std.specs.Prelude.{◌≡◌, ◌<◌, ◌≤◌, ◌+◌, ◌-◌, ◌^◌, ◌↔◌, ◌++◌, [], ℕ, List, length, take, IfOk, IfErr, OnErr, OnOk, IsTrue, IsErrOf, MatchResult};
+ghost use Rattle.std.specs.Prelude.{◌≡◌, ◌<◌, ◌≤◌, ◌+◌, ◌-◌, ◌^◌, ◌↔◌, ◌++◌, [], ℕ, List, length, take, IfOk, IfErr, OnErr, OnOk, IsTrue, IsErrOf, IsSome, MatchResult};
 ghost use Rattle.std.specs.Io.KnownBytes.{Appends};
 ghost use Rattle.shelf_traits.specs.Count.{Rose, Fits};
 ghost use Rattle.shelf_traits.specs.Shelf.{CountsFit, IsReader, IsWriter, Passed, ReadsOn, WritesOn, left_at, file_at, given_of};
@@ -93,14 +93,16 @@ pub fn read_all<S: Shelf>(alloc: Global, shelf: &mut S, slot: u32) -> Result<Vec
 
 /// Writes a whole piece at the end of a slot's file. It takes no memory of its own.
 ///
-/// At an error the first `written` bytes of the piece were appended, and no others. `Failed` comes
-/// only where the shelf's count of create and write rose.
+/// At an error the first `written` bytes of the piece were appended, and no others; the file is
+/// still there. `Failed` comes only where the shelf's count of create and write rose.
 pub fn put_all<S: Shelf>(shelf: &mut S, slot: u32, piece: &[u8]) -> Result<(), PutFault>
     requires { IsWriter (S.view shelf.old) slot }
     ensures keeps { WritesOn (S.view shelf.old) (S.view shelf.new) slot }
     ensures ok { IsTrue (S.view shelf.old).tells → OnOk result (file_at (S.view shelf.new) slot ≡ file_at (S.view shelf.old) slot ++ piece.now) }
     ensures err { IsTrue (S.view shelf.old).tells → IfErr result (λ e.
         file_at (S.view shelf.new) slot ≡ file_at (S.view shelf.old) slot ++ take (written_of e) piece.now) }
+    ensures there { IsTrue (S.view shelf.old).tells → IsSome ((S.view shelf.old).file ((S.view shelf.old).place slot).name)
+        → IsSome ((S.view shelf.new).file ((S.view shelf.old).place slot).name) }
     ensures short { IfErr result (λ e. written_of e < length piece.now) }
     ensures cause { IfErr result (PutCause (Rose (S.view shelf.old).faults_out (S.view shelf.new).faults_out)) }
     ensures quiet { UnlessFailed ((S.view shelf.new).faults_out ≡ (S.view shelf.old).faults_out) result }

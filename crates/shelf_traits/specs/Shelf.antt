@@ -87,7 +87,8 @@ pub record Creates (v w : View) (name : List ℕ) (result : Result ℕ IoFault) 
   pub no_slot : OnErr result (w.ways ≡ v.ways)
   pub tells : w.tells ≡ v.tells
   pub steady : IsTrue v.steady → IsTrue w.steady
-  pub emptied : IsTrue v.tells → IfOk result (λ slot. (w.file name ≡ Some []) × ((w.place slot).name ≡ name))
+  pub emptied : IsTrue v.tells → IfOk result (λ slot. w.file name ≡ Some [])
+  pub place : IsTrue v.tells → IfOk result (λ slot. w.place slot ≡ record { name = name; at = 0 })
   pub other_files : IsTrue v.tells → (n : List ℕ) → n ≢ name → w.file n ≡ v.file n
   pub unmade : IsTrue v.tells → OnErr result (w.file ≡ v.file)
   pub others : IsTrue v.tells → (s : ℕ) → s < length v.ways → w.place s ≡ v.place s

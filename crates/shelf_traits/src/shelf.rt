@@ -37,8 +37,9 @@ pub trait Shelf {
         ensures opens { Opens (view self.old) (view self.new) name.now result }
         ensures fits { CountsFit (view self.new) };
 
-    /// A new slot for writing, over a file that is emptied or made. `Failed` comes only where the
-    /// count of create and write rose. After an error no file was made or changed.
+    /// A new slot for writing, over a file that is emptied or made; its place is 0, since no byte is
+    /// read from it. `Failed` comes only where the count of create and write rose. After an error no
+    /// file was made or changed.
     fn create(&mut self, name: &str) -> Result<u32, IoFault>
         ensures creates { Creates (view self.old) (view self.new) name.now result }
         ensures fits { CountsFit (view self.new) };

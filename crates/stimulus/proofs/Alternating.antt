@@ -54,7 +54,7 @@ kept_in p k (x ∷ xs) h c = by (contains_cases k x xs c) (λ d. kept_in p k xs 
     by (inl e) rest = subst (λ b. Contains (cond b (x ∷ filter p xs) (filter p xs)) k) (sym (ap p e ∙ h)) (subst (λ m. Contains (x ∷ filter p xs) m) e (contains_here x (filter p xs)))
     by (inr d) rest = more (p x) (rest d)
 
-passes : (p : ℕ → Bool) (k : ℕ) (xs : List ℕ) → Contains (filter p xs) k → p k ≡ true
+pub passes : (p : ℕ → Bool) (k : ℕ) (xs : List ℕ) → Contains (filter p xs) k → p k ≡ true
 passes p k [] c = absurd (none_in k c)
 passes p k (x ∷ xs) c = by (p x) refl c (λ d. passes p k xs d)
   where
@@ -99,7 +99,7 @@ free_flat w c k both h free = by (some_or_none (edge_at w c k))
     by (inl e) = flat (level_of w c (slot_before w k)) (level_of w c k) (subst (λ m. kept m (change (level_of w c (slot_before w k)) (level_of w c k)) ≡ None) both e)
     by (inr s) = absurd (free (kept_in (λ j. is_some (edge_at w c j)) k (below (slot_count w)) (ap is_some s.1) (in_below k (slot_count w) h)))
 
-is_some-of : (o : Option Pol) → is_some o ≡ true → (p : Pol) × (o ≡ Some p)
+pub is_some-of : (o : Option Pol) → is_some o ≡ true → (p : Pol) × (o ≡ Some p)
 is_some-of None h = cc
 is_some-of (Some p) h = (p, refl)
 
@@ -129,7 +129,7 @@ at_most : (w : WheelParts) (c : Channel) (m n : ℕ) → (m < n) ⊎ (m ≡ n) �
 at_most w c m n (inl h) k = let l = edge_slots-rise w c m n h k in omega (arith, l)
 at_most w c m n (inr e) k = subst (λ j. slot w c m ≤ slot w c j) e (omega arith)
 
-in_slots : (w : WheelParts) (c : Channel) (r : ℕ) → r < edge_count w c → Contains (edge_slots w c) (slot w c r)
+pub in_slots : (w : WheelParts) (c : Channel) (r : ℕ) → r < edge_count w c → Contains (edge_slots w c) (slot w c r)
 in_slots w c r h = Rattle.std.proofs.lemmas.List.Elements.Contains-get_or (edge_slots w c) r 0 h
 
 which : (w : WheelParts) (c : Channel) (k : ℕ) → Contains (edge_slots w c) k → (q : ℕ) × ((q < edge_count w c) × (slot w c q ≡ k))

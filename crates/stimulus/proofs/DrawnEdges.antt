@@ -13,24 +13,17 @@ use Rattle.wheel_types.specs.Edges.{pol_of}
 use Rattle.capture_core.specs.Changes.{edge_on}
 use Rattle.stimulus.specs.Gaps.{crank_edge, crank_angle, crank_time}
 use Rattle.stimulus.specs.Cams.{cam_edge, cam_angle, IsInGap}
-use Rattle.stimulus.specs.Changes.{Edge, with_edge, edges_on}
-use Rattle.stimulus.specs.Drawn.{crank_edge_at, cam_edge_at, IsEdgeIn}
-use Rattle.stimulus.proofs.AlongStamps.{edges_on-append, contains_here, contains_cases, none_in}
+use Rattle.stimulus_files.specs.Changes.{Edge, with_edge, edges_on}
+use Rattle.stimulus.specs.Drawn.{crank_edge_at, cam_edge_at}
+use Rattle.stimulus_files.proofs.AlongStamps.{edges_on-append, contains_here, contains_cases, none_in}
 use Rattle.stimulus.proofs.Moving.{AreBefore}
 use Rattle.stimulus.proofs.CrankMoves.{split, not_both}
 use Rattle.stimulus.proofs.CamMoves.{one_gap}
-use Rattle.stimulus.proofs.Instants.{Takes, clock}
+use Rattle.stimulus.specs.CamsOf.{Takes}
+use Rattle.stimulus.specs.MadeEdges.{CamHasEdge, HasEdge}
+use Rattle.stimulus.proofs.Instants.{clock}
 
 -- ---- the edges made
-
--- the edge is one of those made: crank edges before edge i, and cam edges before edge k in gaps before gap i
-abbrev pub CamHasEdge : WheelParts → Channel → ℕ → ℕ → ℕ → Edge → Type 0
-CamHasEdge w c seed i k e = (j n : ℕ) × (j < i) × (n < k) × IsEdgeIn w c seed j n e
-
-abbrev pub HasEdge : Channel → WheelParts → ℕ → ℕ → ℕ → ℕ → Edge → Type 0
-HasEdge Crank w seed i k1 k2 e = (j : ℕ) × (j < i) × (e ≡ crank_edge_at w seed j)
-HasEdge Cam1 w seed i k1 k2 e = CamHasEdge w Cam1 seed i k1 e
-HasEdge Cam2 w seed i k1 k2 e = CamHasEdge w Cam2 seed i k2 e
 
 abbrev pub made_edge : ℤ → Pol → Edge
 made_edge t p = record { time = t; polarity = p }

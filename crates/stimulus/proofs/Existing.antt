@@ -15,7 +15,8 @@ use Rattle.stimulus.specs.Cams.{cam_edge, cam_angle, IsInGap}
 use Rattle.stimulus.specs.Laws.{StimuliExist}
 use Rattle.stimulus.proofs.CamAngles.{first_after_crank}
 use Rattle.stimulus.proofs.CrankMoves.{AreTimed}
-use Rattle.stimulus.proofs.Instants.{Takes, clock}
+use Rattle.stimulus.specs.CamsOf.{Takes}
+use Rattle.stimulus.proofs.Instants.{clock}
 use Rattle.stimulus.proofs.Given.{Given, IsInstant, first_instant, crank_instant, cam1_instant, cam2_instant, clear_after, last_instant}
 
 -- ---- instants

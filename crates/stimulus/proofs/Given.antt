@@ -17,16 +17,18 @@ use Rattle.wheel_types.specs.Motions.{Indices, Move, Event, event_if, events_pas
 use Rattle.wheel_types.specs.Verdicts as verdicts
 use Rattle.stimulus.specs.Gaps.{crank_edge, crank_angle, crank_time}
 use Rattle.stimulus.specs.Cams.{cam_edge, cam_angle, IsInGap, time_in}
-use Rattle.stimulus.specs.Changes.{Edge, edges_on}
+use Rattle.stimulus_files.specs.Changes.{Edge, edges_on}
 use Rattle.stimulus.specs.Drawn.{start_of, crank_move, cam_move, IsMoveOn, IsCamEdge, IsDrawnEdge, IsStimulus}
 use Rattle.stimulus.proofs.Times.{at_edge, edge_in_gap, times_rise, before_end, crank_angle_at}
 use Rattle.stimulus.proofs.Moving.{Moved, HasMoved, AreBefore, contains_cases}
 use Rattle.stimulus.proofs.CrankMoves.{AreTimed, z_refl, crank_moves}
 use Rattle.stimulus.proofs.CamMoves.{cams_ascend}
-use Rattle.stimulus.proofs.DrawnEdges.{CamHasEdge, HasEdge, pushed, join, across, none_more, crank_more, cam_more, gap_more, none_at_first}
+use Rattle.stimulus.proofs.DrawnEdges.{pushed, join, across, none_more, crank_more, cam_more, gap_more, none_at_first}
 use Rattle.stimulus.proofs.FirstCamMoves.{cam1_moves}
 use Rattle.stimulus.proofs.SecondCamMoves.{cam2_moves}
-use Rattle.stimulus.proofs.Instants.{not_moved, motion_of, is_permitted, Takes, MovedOn, clock, cam1_if, cam2_if, group_of, one_group}
+use Rattle.stimulus.specs.CamsOf.{Takes}
+use Rattle.stimulus.specs.MadeEdges.{CamHasEdge, HasEdge}
+use Rattle.stimulus.proofs.Instants.{not_moved, motion_of, is_permitted, MovedOn, clock, cam1_if, cam2_if, group_of, one_group}
 
 -- ---- rising instants
 
@@ -38,7 +40,7 @@ before-at t [] k d b h = absurd (omega (arith, h))
 before-at t (i ∷ is) zero d b h = b.0
 before-at t (i ∷ is) (suc k) d b h = before-at t is k d b.1 (omega (arith, h))
 
-rising-last : (is : List Instant) (i : Instant) → verdicts.IsRising is → AllBefore i.time is → verdicts.IsRising (is ++ i ∷ [])
+pub rising-last : (is : List Instant) (i : Instant) → verdicts.IsRising is → AllBefore i.time is → verdicts.IsRising (is ++ i ∷ [])
 rising-last is i r b k d h =
     let size : length (is ++ i ∷ []) ≡ length is + 1 = length-append is (i ∷ []) in
     let first : get_or (is ++ i ∷ []) k d ≡ get_or is k d = get_or_append_left is (i ∷ []) d k (omega (arith, h, size)) in
@@ -54,7 +56,7 @@ rising-last is i r b k d h =
         let second : get_or (is ++ i ∷ []) (k + 1) d ≡ i = subst (λ n. get_or (is ++ i ∷ []) n d ≡ i) here (get_or-append_seam is i [] d) in
         rw (first, second) (before-at i.time is k d b (omega (arith, here)))
 
-before-push : (t : ℤ) (is : List Instant) (i : Instant) → AllBefore t is → i.time <ℤ t → AllBefore t (is ++ i ∷ [])
+pub before-push : (t : ℤ) (is : List Instant) (i : Instant) → AllBefore t is → i.time <ℤ t → AllBefore t (is ++ i ∷ [])
 before-push t [] i b h = (h, tt)
 before-push t (j ∷ is) i b h = (b.0, before-push t is i b.1 h)
 
@@ -89,7 +91,7 @@ pub record IsInstant (i : Instant) (t : ℤ) (a b c : Option Pol) : Type 0 where
   pub cam2 : i.cam2 ≡ c
 
 -- the edges, with those of the instant of crank edge i
-crank_edges : (d : Channel) (w : WheelParts) (seed i k1 k2 n1 n2 : ℕ) (b c : Option Pol) (is : List Instant) (j : Instant) (e : Edge) → IsWheel w
+pub crank_edges : (d : Channel) (w : WheelParts) (seed i k1 k2 n1 n2 : ℕ) (b c : Option Pol) (is : List Instant) (j : Instant) (e : Edge) → IsWheel w
     → Takes w Cam1 seed k1 (crank_angle w seed i) b n1 → Takes w Cam2 seed k2 (crank_angle w seed i) c n2
     → IsInstant j (clock w seed i (crank_angle w seed i)) (Some (pol_of w Crank (crank_edge w seed i))) b c
     → AreBefore w Cam1 seed i k1 → AreBefore w Cam2 seed i k2 → (Contains (edges_on d is) e ↔ HasEdge d w seed i k1 k2 e)
@@ -107,7 +109,7 @@ crank_edges Cam2 w seed i k1 k2 n1 n2 b c is j e wheel one two k before1 before2
     (cam_more w Cam2 seed i k2 x c n2 e wheel (edge_in_gap w seed i wheel) two)
 
 -- and with those of an instant between two crank edges
-cam_edges : (d : Channel) (w : WheelParts) (seed m k1 k2 n1 n2 : ℕ) (x : ℤ) (b c : Option Pol) (is : List Instant) (j : Instant) (e : Edge) → IsWheel w
+pub cam_edges : (d : Channel) (w : WheelParts) (seed m k1 k2 n1 n2 : ℕ) (x : ℤ) (b c : Option Pol) (is : List Instant) (j : Instant) (e : Edge) → IsWheel w
     → IsInGap w seed m x → Takes w Cam1 seed k1 x b n1 → Takes w Cam2 seed k2 x c n2 → IsInstant j (clock w seed m x) None b c
     → (Contains (edges_on d is) e ↔ HasEdge d w seed (suc m) k1 k2 e) → Contains (edges_on d (is ++ j ∷ [])) e ↔ HasEdge d w seed (suc m) n1 n2 e
 cam_edges Crank w seed m k1 k2 n1 n2 x b c is j e wheel gap one two k had =
@@ -176,7 +178,7 @@ one_more w seed m k1 k2 x a b c es is i gap s g r before k clear1 clear2 edges =
       edges = edges;
     }
 
-none_before : (w : WheelParts) (c : Channel) (seed : ℕ) → AreBefore w c seed 0 0
+pub none_before : (w : WheelParts) (c : Channel) (seed : ℕ) → AreBefore w c seed 0 0
 none_before w c seed n h = absurd (omega (arith, h))
 
 -- the first instant, at the first crank edge
@@ -286,7 +288,7 @@ cam_whole : (w : WheelParts) (c : Channel) (seed m k : ℕ) (e : Edge) → IsWhe
 cam_whole w c seed m k e wheel past =
     (λ h. (h.0, h.1, h.2, h.4), λ h. (h.0, h.1, h.2, few w c seed m k h.0 h.1 wheel past h.2 h.3.present h.3.gap (cases_lt h.1 k), h.3))
 
-drawn_edges : (d : Channel) (w : WheelParts) (seed m k1 k2 : ℕ) (is : List Instant) (j : Instant) (e : Edge) → IsWheel w
+pub drawn_edges : (d : Channel) (w : WheelParts) (seed m k1 k2 : ℕ) (is : List Instant) (j : Instant) (e : Edge) → IsWheel w
     → (0 < edge_count w Cam1 → crank_angle w seed (suc m) ≤ℤ cam_angle w Cam1 seed k1) → (0 < edge_count w Cam2 → crank_angle w seed (suc m) ≤ℤ cam_angle w Cam2 seed k2)
     → IsInstant j (pos (crank_time w seed (suc m))) (Some (pol_of w Crank (crank_edge w seed (suc m)))) None None
     → (Contains (edges_on d is) e ↔ HasEdge d w seed (suc m) k1 k2 e) → Contains (edges_on d (is ++ j ∷ [])) e ↔ IsDrawnEdge d w seed (suc m) e

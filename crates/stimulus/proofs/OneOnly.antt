@@ -7,18 +7,18 @@ use Rattle.wheel_types.specs.declared.channel.Pol.{Pol}
 use Rattle.wheel_types.specs.declared.channel.Channel.{Channel}
 use Rattle.wheel_types.specs.declared.instant.Instant.{Instant}
 use Rattle.capture_core.specs.Changes.{edge_on}
-use Rattle.stimulus.specs.Changes.{Edge, with_edge, edges_on}
+use Rattle.stimulus_files.specs.Changes.{Edge, with_edge, edges_on}
 use Rattle.stimulus.specs.Laws.{OneStimulus}
-use Rattle.stimulus.proofs.AlongStamps.{contains_here, contains_more, contains_cases, none_in}
+use Rattle.stimulus_files.proofs.AlongStamps.{contains_here, contains_more, contains_cases, none_in}
 use Rattle.stimulus.proofs.DrawnEdges.{across}
-use Rattle.stimulus.proofs.SameInstants.{Rises, rises, same_instants}
+use Rattle.stimulus_files.proofs.SameInstants.{Rises, rises, same_instants}
 
 -- all edges are after this time
-abbrev AllAfter : ℤ → List Edge → Type 0
+abbrev pub AllAfter : ℤ → List Edge → Type 0
 AllAfter t es = AllByRecursion (λ (e : Edge). t <ℤ e.time) es
 
 -- the times of edges rise
-abbrev EdgesRise : List Edge → Type 0
+abbrev pub EdgesRise : List Edge → Type 0
 EdgesRise [] = ⊤
 EdgesRise (e ∷ es) = AllAfter e.time es × EdgesRise es
 
@@ -30,7 +30,7 @@ later_edges c t (i ∷ is) l = one (edge_on c i) (edges_on c is) l.0 (later_edge
     one None es h a = a
     one (Some p) es h a = (h, a)
 
-edges_rise : (c : Channel) (is : List Instant) → Rises is → EdgesRise (edges_on c is)
+pub edges_rise : (c : Channel) (is : List Instant) → Rises is → EdgesRise (edges_on c is)
 edges_rise c [] r = tt
 edges_rise c (i ∷ is) r = one (edge_on c i) (edges_on c is) (later_edges c i.time is r.0) (edges_rise c is r.1)
   where
@@ -38,7 +38,7 @@ edges_rise c (i ∷ is) r = one (edge_on c i) (edges_on c is) (later_edges c i.t
     one None es a b = b
     one (Some p) es a b = (a, b)
 
-is_later : (t : ℤ) (es : List Edge) (x : Edge) → AllAfter t es → Contains es x → t <ℤ x.time
+pub is_later : (t : ℤ) (es : List Edge) (x : Edge) → AllAfter t es → Contains es x → t <ℤ x.time
 is_later t [] x a h = absurd (none_in x h)
 is_later t (e ∷ es) x a h = by (contains_cases x e es h) (is_later t es x a.1)
   where
@@ -63,7 +63,7 @@ in_rest e f x es fs head a h (inl q) =
     here : x.time <ℤ x.time
     here = subst (λ (z : Edge). z.time <ℤ x.time) (head ∙ q) (is_later e.time es x a h)
 
-same_edges : (es fs : List Edge) → EdgesRise es → EdgesRise fs → ((e : Edge) → Contains es e ↔ Contains fs e) → es ≡ fs
+pub same_edges : (es fs : List Edge) → EdgesRise es → EdgesRise fs → ((e : Edge) → Contains es e ↔ Contains fs e) → es ≡ fs
 same_edges [] [] r s h = refl
 same_edges [] (f ∷ fs) r s h = absurd (none_in f ((h f).1 (contains_here f fs)))
 same_edges (e ∷ es) [] r s h = absurd (none_in e ((h e).0 (contains_here e es)))
@@ -76,7 +76,7 @@ same_edges (e ∷ es) (f ∷ fs) r s h =
     )) in
     ap (λ (x : Edge). x ∷ es) head ∙ ap (λ (l : List Edge). f ∷ l) rest
 
-turned : {A B : Type 0} → (A ↔ B) → (B ↔ A)
+pub turned : {A B : Type 0} → (A ↔ B) → (B ↔ A)
 turned p = (p.1, p.0)
 
 pub one_stimulus : OneStimulus

@@ -9,7 +9,7 @@ use Rattle.wheel_types.specs.Motions.{Indices, Move, Motion, IsPermitted, Gives}
 use Rattle.wheel_types.specs.Verdicts.{IsRising}
 use Rattle.stimulus.specs.Gaps.{crank_edge, crank_angle, crank_time}
 use Rattle.stimulus.specs.Cams.{cam_edge, cam_angle, IsInGap, time_in}
-use Rattle.stimulus.specs.Changes.{Edge, edges_on}
+use Rattle.stimulus_files.specs.Changes.{Edge, edges_on}
 
 -- the next edges when the stimulus begins
 abbrev pub start_of : WheelParts → ℕ → Indices

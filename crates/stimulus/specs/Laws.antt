@@ -1,5 +1,5 @@
 -- Laws of stimuli.
-use Rattle.std.specs.Prelude.{◌≡◌, ◌≢◌, ℕ, ◌<◌, ◌≤◌, List, reverse, All, ℤ, pos, ◌+ℤ◌, ◌-ℤ◌, ◌≤ℤ◌, ◌<ℤ◌}
+use Rattle.std.specs.Prelude.{◌≡◌, ◌≢◌, ℕ, ◌^◌, ◌<◌, ◌≤◌, List, reverse, All, ℤ, pos, ◌+ℤ◌, ◌-ℤ◌, ◌≤ℤ◌, ◌<ℤ◌}
 use Rattle.wheel_types.specs.declared.channel.Channel.{Channel}
 use Rattle.wheel_types.specs.declared.channel.Keep.TheVariants.{Both}
 use Rattle.wheel_types.specs.declared.channel.Pol.{Pol}
@@ -10,7 +10,9 @@ use Rattle.wheel_types.specs.declared.verdict.Verdict.TheVariants.{Lost}
 use Rattle.wheel_types.specs.declared.parts.WheelParts.{WheelParts}
 use Rattle.wheel_types.specs.Edges.{edge_count, angle_of, keep_of, pol_of}
 use Rattle.wheel_types.specs.Wheels.{IsWheel}
-use Rattle.wheel_types.specs.Verdicts.{AreVerdicts}
+use Rattle.wheel_types.specs.Verdicts.{AreVerdicts, AreWithin}
+use Rattle.stimulus_files.specs.FilesOf.{watch_of}
+use Rattle.stimulus_files.specs.Written.{AreSmall, AreWritable}
 use Rattle.stimulus.specs.Gaps.{crank_angle, HasTimes}
 use Rattle.stimulus.specs.Cams.{cam_edge}
 use Rattle.stimulus.specs.Drawn.{IsStimulus}
@@ -46,3 +48,10 @@ other Fall = Rise
 abbrev pub PolaritiesAlternate : Type 0
 PolaritiesAlternate = (w : WheelParts) (c : Channel) (m : ℤ)
     → keep_of w c ≡ Both → 0 < edge_count w c → pol_of w c (m +ℤ pos 1) ≡ other (pol_of w c m)
+
+-- the files of a stimulus can be written: no time is past the greatest of a capture, changes come after time 0 and one after the other, and
+-- the edges of each watched channel are kept ones in turn and apart
+abbrev pub StimuliAreWritable : Type 0
+StimuliAreWritable = (w : WheelParts) (seed gaps : ℕ) (is : List Instant)
+    → IsWheel w → gaps ≤ 1000000 → HasTimes w seed gaps → IsStimulus w seed gaps is
+    → AreWithin (10 ^ 24) is × AreSmall (watch_of w) is × AreWritable (watch_of w) is

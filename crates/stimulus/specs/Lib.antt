@@ -3,9 +3,12 @@ pub mod Gaps
 pub mod GapsOf
 pub mod Cams
 pub mod CamsOf
+pub mod Plans
+pub mod Cranks
+pub mod Causes
+pub mod MadeEdges
+pub mod MadeTo
+pub mod Making
+pub mod Made
 pub mod Drawn
-pub mod Changes
-pub mod Files
-pub mod Written
-pub mod ReadBack
 pub mod Laws

@@ -1,6 +1,5 @@
-//! Laws of stimuli and of their files. The functions do nothing; their contracts say the laws.
-ghost use Rattle.stimulus.specs.Laws.{FirstIsLeast, NeverLost, OneStimulus, PolaritiesAlternate, StimuliExist};
-ghost use Rattle.stimulus.specs.ReadBack.{DumpsReadBack, RowsReadBack, TimesReadBack};
+//! Laws of stimuli. The functions do nothing; their contracts say the laws.
+ghost use Rattle.stimulus.specs.Laws.{FirstIsLeast, NeverLost, OneStimulus, PolaritiesAlternate, StimuliAreWritable, StimuliExist};
 
 /// A cam begins with its least edge at the angle of the first crank edge or after it.
 pub fn first_is_least()
@@ -28,19 +27,9 @@ pub fn polarities_alternate()
     ensures { PolaritiesAlternate }
 {}
 
-/// The value change dump of rising instants reads back as exactly these instants and a clean end. It asks that each channel's edges can
-/// be written: of kept polarities, in turn where both are kept, two femtoseconds apart, after time 0 and at most at 10^24 fs. That the
-/// edges of every stimulus are such is not shown yet.
-pub fn dumps_read_back()
-    ensures { DumpsReadBack }
-{}
-
-/// A time in seconds with 15 decimals, as rows have it, reads back as its femtoseconds.
-pub fn times_read_back()
-    ensures { TimesReadBack }
-{}
-
-/// A row of a file of comma-separated values reads back as its fields. That the rows together give the stamps is not shown yet.
-pub fn rows_read_back()
-    ensures { RowsReadBack }
+/// Both files of a stimulus of at most 1,000,000 gaps can be written, where each gap has a time between its limits: no time is past
+/// 10^24 femtoseconds; the changes of each watched channel come after time 0, one after the other; and its edges are of kept
+/// polarities, in turn where both are kept, and two femtoseconds apart at least.
+pub fn stimuli_are_writable()
+    ensures { StimuliAreWritable }
 {}

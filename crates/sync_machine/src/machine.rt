@@ -143,6 +143,22 @@ impl<'a> Machine<'a> {
         self.state
     }
 
+    /// The image whose table it walks.
+    #[inline]
+    pub fn view(&self) -> &View<'a>
+        ensures { result.now ≡ self.now.view }
+    {
+        &self.view
+    }
+
+    /// Whether the window that the next instant comes into has an instant.
+    #[inline]
+    pub fn started(&self) -> bool
+        ensures { result ≡ self.now.started }
+    {
+        self.started
+    }
+
     /// When the last instant was, so that a caller can test whether another one is later.
     pub fn last(&self) -> Option<i128>
         ensures { result ≡ self.now.time }

@@ -8,3 +8,4 @@ mod parts;
 
 pub use fault::CompileFault;
 pub use image::compile;
+pub use kinds::kind_of;

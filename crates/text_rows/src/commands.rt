@@ -31,16 +31,26 @@ pub fn told_of_words(alloc: Global, words: &str) -> Result<Option<String>, Alloc
         None => String::from_str(alloc, "none")?,
         Some(Command::Import { source, name }) => format!(in alloc; "{source} {name}")?,
         Some(Command::Size { wheel }) => format!(in alloc; "{wheel}")?,
+        Some(Command::Compile { wheel, image }) => format!(in alloc; "{wheel} into {image}")?,
         Some(
             Command::Replay {
                 model,
                 capture,
+                cert,
                 options,
             },
         ) => {
             let (time, crank) = (shown(options.time), shown(options.crank));
             let (cam1, cam2) = (shown(options.cam1), shown(options.cam2));
-            format!(in alloc; "{model} {capture}, {time} {crank} {cam1} {cam2}")?
+            match cert {
+                None => format!(in alloc; "{model} {capture}, {time} {crank} {cam1} {cam2}")?,
+                Some(cert) => {
+                    let cert = shown(Some(cert));
+                    format!(in alloc;
+                        "{model} {capture} into {cert}, {time} {crank} {cam1} {cam2}"
+                    )?
+                }
+            }
         }
         Some(
             Command::Check {

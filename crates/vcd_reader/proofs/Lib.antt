@@ -9,3 +9,4 @@ pub mod TokenRuns
 pub mod TokenOrder
 pub mod RisingStamps
 pub mod MoreBytes
+pub mod OpenStamps

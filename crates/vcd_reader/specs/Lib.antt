@@ -9,3 +9,4 @@ pub mod Answers
 pub mod Streams
 pub mod Readers
 pub mod Laws
+pub mod OpenStamps

@@ -14,6 +14,7 @@ mod waiting;
 
 pub use fault::FeedFault;
 pub use laws::{
-    all_are_taken, more_bytes_change_nothing, times_rise, tokens_are_runs, tokens_of_joined,
+    all_are_taken, dumps_are_captures, more_bytes_change_nothing, times_rise, tokens_are_runs,
+    tokens_of_joined,
 };
 pub use reader::VcdReader;

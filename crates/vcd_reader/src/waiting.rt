@@ -7,7 +7,8 @@ use std::alloc::{AllocError, Global};
 use std::marker::Model;
 use wheel_types::Instant;
 
-/// Instants that wait. They are taken from the front, and memory is kept until none waits.
+/// Instants that wait, taken from the front. The places of those taken are used anew once a `take` has found that none waits; the
+/// memory itself is kept until the queue is dropped.
 #[derive(Drop)]
 pub struct Waiting {
     closed: SmallVec<Instant, 4>,

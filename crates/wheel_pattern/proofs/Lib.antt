@@ -5,3 +5,5 @@ pub mod FileFaults
 pub mod OneMeaning
 pub mod GrownTables
 pub mod PrintedReadBack
+pub mod FirstKeys
+pub mod FirstKeysTold

@@ -6,3 +6,4 @@ pub mod Lookups
 pub mod WheelFile
 pub mod Laws
 pub mod Printed
+pub mod FirstFaults

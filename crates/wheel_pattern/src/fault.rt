@@ -23,7 +23,7 @@ pub enum PatternFault {
     #[error("wheel: bad value {key}")]
     BadValue { key: Key },
     /// The parts are not those of a wheel.
-    #[error("wheel: {0:?}")]
+    #[error("{0}")]
     Wheel(WheelFault),
     /// Memory ran out.
     #[error("want of memory")]

@@ -37,6 +37,13 @@ places_between = refl
 pub cam_edge_between_teeth_tells_the_turn : (windows_of between (seen_crank 60 None ∷ seen_cam 45 ∷ seen_crank 30 None ∷ seen_crank 0 None ∷ [])).0 ≡ At 2 4 ∷ At 1 2 ∷ Open (at 2 (pos 1)) (at 3 (pos 1)) ∷ Open (at 3 (pos 1)) (at 0 (pos 0)) ∷ []
 cam_edge_between_teeth_tells_the_turn = refl
 
+-- a cam edge that may come a whole quarter of a turn before its slot
+abbrev pub early_cam : WheelParts
+early_cam = record { degrees = 360; slots = 2 ∷ 0 ∷ 0 ∷ 1 ∷ []; crank = Rising; cam1 = Rising; cam2 = Rising; cam1_early = 90000; cam1_late = 0; cam2_early = 0; cam2_late = 0; rpm_low = 60; rpm_high = 6000; rn = 3; rd = 2 }
+
+pub places_of_an_early_cam : all_places early_cam ≡ at 0 (pos 1) ∷ at 0 (pos 2) ∷ at 0 (pos 3) ∷ []
+places_of_an_early_cam = refl
+
 -- a cam edge with a tooth
 abbrev pub together : WheelParts
 together = one_cam (1 ∷ 0 ∷ 1 ∷ 0 ∷ 3 ∷ 0 ∷ 1 ∷ 0 ∷ []) 0

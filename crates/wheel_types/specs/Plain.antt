@@ -1,6 +1,7 @@
--- The plain program: verdicts by the sets of end places, instant by instant. No clause of a function rests on it. It computes, so
--- that the verdicts of worked captures and the texts of their reports are theorems by computing.
-use Rattle.std.specs.Prelude.{ℕ, zero, suc, ◌*◌, cond, ◌&&◌, ◌||◌, not, List, [], ◌∷◌, map, Option, Some, None, ℤ, pos, ◌-ℤ◌, int_lt, int_le, nat_lt, ◌==◌, slice_index, Bool, filter, filter_map, flat_map}
+-- The plain program: verdicts by the sets of end places, instant by instant. It computes, so that the verdicts of worked captures and
+-- the texts of their reports are theorems by computing. It is not proved to compute the definitions, and no clause of a function
+-- cites it.
+use Rattle.std.specs.Prelude.{ℕ, zero, suc, ◌*◌, cond, ◌&&◌, ◌||◌, not, List, [], ◌∷◌, map, Option, Some, None, ℤ, pos, ◌-ℤ◌, ◌+◌, int_lt, int_le, nat_lt, ◌==◌, slice_index, Bool, filter, filter_map, flat_map}
 use Rattle.wheel_types.specs.declared.channel.Channel.TheVariants.{Crank, Cam1, Cam2}
 use Rattle.wheel_types.specs.declared.place.Place.{Place}
 use Rattle.wheel_types.specs.declared.instant.Instant.{Instant}
@@ -15,7 +16,7 @@ pub use Rattle.wheel_types.specs.PlainSteps.{same_pol, cam_low, cam_high, low_of
 -- the next edges of a cam that may stand within a cycle
 abbrev pub candidates : ℕ → List ℤ
 candidates zero = pos 0 ∷ []
-candidates (suc k) = map (λ n. pos n -ℤ pos (2 * suc k)) (below (5 * suc k))
+candidates (suc k) = map (λ n. pos n -ℤ pos (2 * suc k)) (below (5 * suc k + 1))
 
 -- every place of the wheel, ascending
 abbrev pub all_places : WheelParts → List Place

@@ -1,5 +1,7 @@
 //! Channels, and the edges that are kept of them.
 
+use std::fmt;
+
 /// Which way a level goes at an edge.
 #[derive(Clone, Copy, Debug, PartialEq, Eq)]
 pub enum Pol {
@@ -23,4 +25,14 @@ pub enum Channel {
     Crank,
     Cam1,
     Cam2,
+}
+
+impl fmt::Display for Channel {
+    fn fmt<W: fmt::Write>(&self, f: &mut fmt::Formatter<W>) -> fmt::Result {
+        f.write_str(match self {
+            Channel::Crank => "crank",
+            Channel::Cam1 => "cam1",
+            Channel::Cam2 => "cam2",
+        })
+    }
 }

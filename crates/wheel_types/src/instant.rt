@@ -17,7 +17,12 @@ pub struct Instant {
 }
 
 impl Default for Instant {
-    /// A rising crank edge at time 0.
+    ghost use Rattle.std.specs.Prelude.{Some, None, pos};
+    ghost use Rattle.wheel_types.specs.declared.channel.Pol.TheVariants.{Rise};
+
+    ghost is_default = { λ i. (i.time ≡ pos 0) × (i.crank ≡ Some Rise) × (i.cam1 ≡ None) × (i.cam2 ≡ None) };
+
+    /// A rising crank edge at time 0, and no other.
     fn default() -> Instant {
         Instant {
             time: 0,

@@ -9,3 +9,15 @@ pub struct Place {
     pub n1: i32,
     pub n2: i32,
 }
+
+impl Place {
+    ghost use Rattle.std.specs.Prelude.{◌↔◌, IsTrue};
+    ghost use Rattle.wheel_types.specs.Verdicts.{IsBefore};
+
+    /// Whether it stands before the other place, or is the same, in the order that `Ord` gives: by `j`, then by `n1`, then by `n2`.
+    pub fn is_not_after(&self, other: &Place) -> bool
+        ensures { IsTrue result ↔ IsBefore self.now other.now }
+    {
+        self <= other
+    }
+}

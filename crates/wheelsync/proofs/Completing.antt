@@ -1,12 +1,13 @@
 -- What follows of a run from what its work may come to.
 use Rattle.std.proofs.Common.{◌≡◌, ℕ, ◌⊎◌, inl, inr, List, Option, None, Some, IfSome, Result, Ok, Err, refl, sym, ◌∙◌, ap}
-use Rattle.std.specs.Prelude.{IsTrue}
+use Rattle.std.specs.Prelude.{IsTrue, option_and_then}
 use Rattle.shelf_traits.specs.Count.{Rose}
 use Rattle.shelf_traits.specs.Shelf.{View}
+use Rattle.shelf_io.specs.Touching.{RoseOut}
 use Rattle.capture_core.specs.declared.capture.End.{End}
 use Rattle.capture_core.specs.declared.capture.End.TheVariants.{Clean, Csv, Vcd}
 use Rattle.command_words.specs.Options.{Options}
-use Rattle.command_words.specs.Words.{Order, Replay, Import, Size, Check}
+use Rattle.command_words.specs.Words.{Order, Replay, Import, Size, Compile, Check, writes_of}
 use Rattle.run_ends.specs.declared.cause.Done.{Done}
 use Rattle.run_ends.specs.declared.cause.Done.TheVariants as done
 use Rattle.run_ends.specs.declared.cause.Cause.{Cause}
@@ -27,9 +28,12 @@ use Rattle.named_captures.specs.Captures.{HasNamedCapture}
 use Rattle.named_captures.proofs.FileNames.{file_has_one_capture}
 use Rattle.run_ends.proofs.Noting.{due_or_memory}
 use Rattle.run_ends.proofs.Completing.{reads_end, judges_end, writes_end, hands_end, reads_ready, judges_ready, open_not_usage, read_not_usage, judge_not_usage, write_not_usage}
-use Rattle.wheelsync.specs.Replay.{IsReplay}
+use Rattle.certified_replay.proofs.Ending.{certified_ends, certified_not_usage}
+use Rattle.wheelsync.specs.Replay.{IsReplay, IsReplayed}
 use Rattle.wheelsync.specs.Import.{IsImport}
 use Rattle.table_commands.specs.States.{HasFewStates, FamilyGives}
+use Rattle.compile_command.specs.Compile.{IsCompile}
+use Rattle.compile_command.proofs.Compiling.{compile_ends, compile_not_usage}
 use Rattle.table_commands.specs.Size.{IsSize, IsSized}
 use Rattle.table_commands.proofs.OneFamily.{family_gives_none}
 use Rattle.wheelsync.specs.Commands.{IsWork}
@@ -48,7 +52,7 @@ settled_stop (cause.Refused r) s = absurd s
 settled_stop (cause.Limit l) s = absurd s
 
 -- over accepted files and a steady shelf
-replay_settles : (v : View) (m c : List ℕ) (o : Options) (work : Work) → IsTrue v.tells → IsTrue v.steady → AreReady v.file (Replay m c o) → IsReplay v m c o work → IsSettled work.end
+replay_settles : (v : View) (m c : List ℕ) (o : Options) (work : Work) → IsTrue v.tells → IsTrue v.steady → AreReady v.file (Replay m c None o) → IsReplay v m c o work → IsSettled work.end
 replay_settles v m c o work told steady (w, (k, a)) r =
     reads_ready v m (ModelGives v.file m) (HasPlacedWheel v.file m) (λ w. Reads v c (FileGives v.file c) (HasNamedCapture v.file c w o) (λ k. Writes (IsReported w k))) IsSettled
     a.files.model_file.wheel.bytes w work told steady a.files.model_file.wheel.holds.there (model_gives_none v.file m w a.files.model_file)
@@ -58,6 +62,11 @@ replay_settles v m c o work told steady (w, (k, a)) r =
     (file_gives_none v.file c a.files.capture_file.bytes a.files.capture_file.holds) (λ d h. file_has_one_capture v.file c w o d k h a.files.capture_file) (inr (inl refl))
     (λ last p. writes_end (IsReported w k) IsSettled last (λ text end d. inl (d.1 ∙ ap ended_by a.clean)) settled_stop p) n)
     r
+
+replayed_settles : (v : View) (m c : List ℕ) (f : Option (List ℕ)) (o : Options) (work : Work) → IsTrue v.tells → IsTrue v.steady → AreReady v.file (Replay m c f o) → IsReplayed v m c f o work → IsSettled work.end
+replayed_settles v m c None o work told steady ready r = replay_settles v m c o work told steady ready r
+replayed_settles v m c (Some f) o work told steady (w, (k, a)) r =
+    certified_ends IsSettled v m c f o w k work told steady a.files.model_file a.files.capture_file (inl (ap ended_by a.clean)) (inr (inl refl)) (inr (inr refl)) r
 
 import_settles : (v : View) (source name : List ℕ) (work : Work) → IsTrue v.tells → IsTrue v.steady → AreReady v.file (Import source name) → IsImport v source name work → IsSettled work.end
 import_settles v source name work told steady (slots, h) r =
@@ -76,9 +85,12 @@ size_settles v wheel work told steady (w, h) r =
     r
 
 settles : (v : View) (order : Order) (work : Work) → IsTrue v.tells → IsTrue v.steady → AreReady v.file order → IsWork v (Some order) work → IsSettled work.end
-settles v (Replay m c o) work told steady ready r = hands_end (IsReplay v m c o) IsSettled work (λ rest n. replay_settles v m c o rest told steady ready n) (inr (inr refl)) r
+settles v (Replay m c f o) work told steady ready r = hands_end (IsReplayed v m c f o) IsSettled work (λ rest n. replayed_settles v m c f o rest told steady ready n) (inr (inr refl)) r
 settles v (Import source name) work told steady ready r = hands_end (IsImport v source name) IsSettled work (λ rest n. import_settles v source name rest told steady ready n) (inr (inr refl)) r
 settles v (Size wheel) work told steady ready r = hands_end (IsSize v wheel) IsSettled work (λ rest n. size_settles v wheel rest told steady ready n) (inr (inr refl)) r
+settles v (Compile wheel image) work told steady (w, h) r =
+    hands_end (IsCompile v wheel image) IsSettled work
+    (λ rest n. compile_ends IsSettled v wheel image w rest told steady h.wheel_file h.few (inl refl) (inr (inl refl)) (inr (inr refl)) n) (inr (inr refl)) r
 settles v (Check wheel capture report cert o) work told steady (w, (c, (rs, (cs, (h, valid))))) r =
     hands_end (IsCheck v wheel capture report cert o) IsSettled work
     (λ rest n. check_ends done.Whole v wheel capture report cert o w c rs cs rest told steady h (valid_ends w c rs cs valid) n) (inr (inr refl)) r
@@ -87,23 +99,28 @@ denied : (v : View) (order : Order) (work : Work) → IsTrue v.tells → IsTrue 
 denied v (Check wheel capture report cert o) work told steady (w, (c, (rs, (cs, (h, not_valid))))) r =
     hands_end (IsCheck v wheel capture report cert o) (EndsIn done.No) work
     (λ rest n. check_ends done.No v wheel capture report cert o w c rs cs rest told steady h (invalid_ends w c rs cs not_valid) n) (inr (inr refl)) r
-denied v (Replay m c o) work told steady d r = absurd d
+denied v (Replay m c f o) work told steady d r = absurd d
 denied v (Import source name) work told steady d r = absurd d
 denied v (Size wheel) work told steady d r = absurd d
+denied v (Compile wheel image) work told steady d r = absurd d
 
 -- where no write fails the status is that of the work that is done
-by_ended : (x : Done) (v w : View) (allows : Work → Type 0) (out new notes after : Stream) (s : Status) → (r : Ran allows None v w out new notes after s) → IsTrue v.steady
+by_ended : (x : Done) (v w : View) (allows : Work → Type 0) (writes : Option (List ℕ)) (out new notes after : Stream) (s : Status) → (r : Ran allows writes v w out new notes after s) → IsTrue v.steady
     → NoneFailed out new → NoneFailed notes after → EndsIn x r.served.work.end → (s ≡ status_of (Ok x)) ⊎ (s ≡ status.Memory)
-by_ended x v w allows out new notes after s r steady a b settled = by settled
+by_ended x v w allows writes out new notes after s r steady a b settled = by settled
   where
     not_noted : NoneFailed notes after → FailedNote notes.faults after.faults (IsTrue notes.steady) → ⊥
     not_noted (inl still) f = f.unsteady still
     not_noted (inr none) f = none f.rose
 
-    not_written : NoneFailed out new → Rose out.faults new.faults ⊎ ⊥ → r.end ≡ Err cause.WriteFault → ⊥
+    not_filed : (writes : Option (List ℕ)) → RoseOut v w writes → ⊥
+    not_filed None failed = failed
+    not_filed (Some name) failed = failed.unsteady steady
+
+    not_written : NoneFailed out new → Rose out.faults new.faults ⊎ RoseOut v w writes → r.end ≡ Err cause.WriteFault → ⊥
     not_written (inl still) rose is = r.served.calm is still steady
     not_written (inr none) (inl rose) is = none rose
-    not_written (inr none) (inr never) is = never
+    not_written (inr none) (inr failed) is = not_filed writes failed
 
     due : (s ≡ status_of r.end) ⊎ (s ≡ status.Memory)
     due = due_or_memory (FailedNote notes.faults after.faults (IsTrue notes.steady)) notes.taken after.taken (notes_text r.end r.tails) (status_of r.end) s (not_noted b) r.noted
@@ -122,12 +139,12 @@ by_ended x v w allows out new notes after s r steady a b settled = by settled
     by (inr (inr is)) = let fault = r.served.ends ∙ is in absurd (not_written a (r.served.write fault) fault)
 
 -- a run is complete
-pub completes : (v w : View) (order : Option Order) (out new notes after : Stream) (s : Status) → Ran (IsWork v order) None v w out new notes after s → IsTrue v.tells → IsTrue v.steady
+pub completes : (v w : View) (order : Option Order) (out new notes after : Stream) (s : Status) → Ran (IsWork v order) (option_and_then writes_of order) v w out new notes after s → IsTrue v.tells → IsTrue v.steady
     → NoneFailed out new → NoneFailed notes after → IfSome order (λ order. IsDue v.file order s)
 completes v w None out new notes after s r told steady a b = tt
 completes v w (Some order) out new notes after s r told steady a b = (
-  λ ready. by_ended done.Whole v w (IsWork v (Some order)) out new notes after s r steady a b (settles v order r.served.work told steady ready r.served.allowed),
-  λ no. by_ended done.No v w (IsWork v (Some order)) out new notes after s r steady a b (denied v order r.served.work told steady no r.served.allowed),
+  λ ready. by_ended done.Whole v w (IsWork v (Some order)) (writes_of order) out new notes after s r steady a b (settles v order r.served.work told steady ready r.served.allowed),
+  λ no. by_ended done.No v w (IsWork v (Some order)) (writes_of order) out new notes after s r steady a b (denied v order r.served.work told steady no r.served.allowed),
 )
 
 -- ---- usage
@@ -150,6 +167,10 @@ replay_not_usage v m c o work r =
     (λ k last b p. writes_end (IsReported w k) (λ end. end ≡ Err cause.Usage → ⊥) last (λ text end d is. ended_not_usage k.end (sym d.1 ∙ is)) (λ e s. not_cause e (write_not_usage e s)) p) n)
     r
 
+replayed_not_usage : (v : View) (m c : List ℕ) (f : Option (List ℕ)) (o : Options) (work : Work) → IsReplayed v m c f o work → work.end ≡ Err cause.Usage → ⊥
+replayed_not_usage v m c None o work r = replay_not_usage v m c o work r
+replayed_not_usage v m c (Some f) o work r = certified_not_usage v m c f o work r
+
 import_not_usage : (v : View) (source name : List ℕ) (work : Work) → IsImport v source name work → work.end ≡ Err cause.Usage → ⊥
 import_not_usage v source name work r =
     reads_end v source (SourceGives v.file source name) (HasTable v.file source name) (λ slots. Writes (IsSlotsLine slots)) (λ end. end ≡ Err cause.Usage → ⊥) work
@@ -170,11 +191,13 @@ size_not_usage v wheel work r =
     r
 
 work_not_usage : (v : View) (order : Order) (work : Work) → IsWork v (Some order) work → work.end ≡ Err cause.Usage → ⊥
-work_not_usage v (Replay m c o) work r =
-    hands_end (IsReplay v m c o) (λ end. end ≡ Err cause.Usage → ⊥) work (λ rest n. replay_not_usage v m c o rest n) (not_cause cause.WriteFault (λ is. cc)) r
+work_not_usage v (Replay m c f o) work r =
+    hands_end (IsReplayed v m c f o) (λ end. end ≡ Err cause.Usage → ⊥) work (λ rest n. replayed_not_usage v m c f o rest n) (not_cause cause.WriteFault (λ is. cc)) r
 work_not_usage v (Import source name) work r =
     hands_end (IsImport v source name) (λ end. end ≡ Err cause.Usage → ⊥) work (λ rest n. import_not_usage v source name rest n) (not_cause cause.WriteFault (λ is. cc)) r
 work_not_usage v (Size wheel) work r = hands_end (IsSize v wheel) (λ end. end ≡ Err cause.Usage → ⊥) work (λ rest n. size_not_usage v wheel rest n) (not_cause cause.WriteFault (λ is. cc)) r
+work_not_usage v (Compile wheel image) work r =
+    hands_end (IsCompile v wheel image) (λ end. end ≡ Err cause.Usage → ⊥) work (λ rest n. compile_not_usage v wheel image rest n) (not_cause cause.WriteFault (λ is. cc)) r
 work_not_usage v (Check wheel capture report cert o) work r =
     hands_end (IsCheck v wheel capture report cert o) (λ end. end ≡ Err cause.Usage → ⊥) work (λ rest n. check_not_usage v wheel capture report cert o rest n) (not_cause cause.WriteFault (λ is. cc)) r
 
@@ -194,7 +217,7 @@ noted_usage failed old new text end s (inr (inl (same, a))) is = absurd (cc)
 noted_usage failed old new text end s (inr (inr (same, a))) is = absurd (cc)
 
 -- usage comes only where the words are no command
-pub usage_alone : (v w : View) (order : Option Order) (out new notes after : Stream) (s : Status) → Ran (IsWork v order) None v w out new notes after s → s ≡ status.Usage → order ≡ None
+pub usage_alone : (v w : View) (order : Option Order) (out new notes after : Stream) (s : Status) → Ran (IsWork v order) (option_and_then writes_of order) v w out new notes after s → s ≡ status.Usage → order ≡ None
 usage_alone v w None out new notes after s r is = refl
 usage_alone v w (Some order) out new notes after s r is =
     absurd (work_not_usage v order r.served.work r.served.allowed (sym r.served.ends ∙ noted_usage (FailedNote notes.faults after.faults (IsTrue notes.steady)) notes.taken after.taken (notes_text r.end r.tails) r.end s r.noted is))

@@ -3,6 +3,7 @@ pub mod OneReport
 pub mod Reports
 pub mod WholeReports
 pub mod Putting
+pub mod CertifiedLines
 pub mod Endings
 pub mod Completing
 pub mod HowItEnds

@@ -2,19 +2,21 @@
 use Rattle.std.specs.Prelude.{◌≡◌, [], None, Some}
 use Rattle.std.specs.declared.option.Option.{Option}
 use Rattle.shelf_traits.specs.Shelf.{View}
-use Rattle.command_words.specs.Words.{Order, Replay, Import, Size, Check}
+use Rattle.command_words.specs.Words.{Order, Replay, Import, Size, Compile, Check}
 use Rattle.run_ends.specs.declared.cause.Cause.TheVariants.{Usage}
 use Rattle.run_ends.specs.Works.{Work, HandsOn, stopped}
 use Rattle.check_command.specs.Check.{IsCheck}
-use Rattle.wheelsync.specs.Replay.{IsReplay}
+use Rattle.wheelsync.specs.Replay.{IsReplayed}
 use Rattle.wheelsync.specs.Import.{IsImport}
 use Rattle.table_commands.specs.Size.{IsSize}
+use Rattle.compile_command.specs.Compile.{IsCompile}
 
 -- What the work for an order may come to, past whose end out is handed on. Words that are none stop it at once, with nothing opened or
 -- written.
 abbrev pub IsWork : View → Option Order → Work → Type 0
 IsWork v None work = work ≡ stopped [] Usage
-IsWork v (Some (Replay model capture o)) work = HandsOn (IsReplay v model capture o) work
+IsWork v (Some (Replay model capture cert o)) work = HandsOn (IsReplayed v model capture cert o) work
 IsWork v (Some (Import source name)) work = HandsOn (IsImport v source name) work
 IsWork v (Some (Size wheel)) work = HandsOn (IsSize v wheel) work
+IsWork v (Some (Compile wheel image)) work = HandsOn (IsCompile v wheel image) work
 IsWork v (Some (Check wheel capture report cert o)) work = HandsOn (IsCheck v wheel capture report cert o) work

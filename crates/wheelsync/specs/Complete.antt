@@ -8,7 +8,7 @@ use Rattle.command_words.specs.Options.{Options}
 use Rattle.run_files.specs.Files.{HasPlacedWheel, HasTable}
 use Rattle.named_captures.specs.Captures.{HasNamedCapture}
 use Rattle.table_commands.specs.States.{HasFewStates}
-use Rattle.command_words.specs.Words.{Order, Replay, Import, Size, Check}
+use Rattle.command_words.specs.Words.{Order, Replay, Import, Size, Compile, Check}
 use Rattle.wheel_types.specs.declared.verdict.Report.{Report}
 use Rattle.pair_certificate.specs.declared.line.CertLine.{CertLine}
 use Rattle.certificate_checker.specs.Valid.{IsValid}
@@ -33,9 +33,10 @@ pub record IsCounted (file : List ℕ → Option (List ℕ)) (wheel : List ℕ) 
 
 -- the files are there, short enough and accepted, and a certificate that is to be checked is valid
 abbrev pub AreReady : (List ℕ → Option (List ℕ)) → Order → Type 0
-AreReady file (Replay model capture_name o) = (w : WheelParts) × ((capture : Capture) × AreAccepted file model capture_name o w capture)
+AreReady file (Replay model capture_name cert o) = (w : WheelParts) × ((capture : Capture) × AreAccepted file model capture_name o w capture)
 AreReady file (Import source name) = (slots : List ℕ) × HasTable file source name slots
 AreReady file (Size wheel) = (w : WheelParts) × IsCounted file wheel w
+AreReady file (Compile wheel image) = (w : WheelParts) × IsCounted file wheel w
 AreReady file (Check wheel capture_name report cert o) =
     (w : WheelParts) × ((capture : Capture) × ((rs : List Report) × ((cs : List CertLine) × (AreChecked file wheel capture_name report cert o w capture rs cs × IsValid w capture.instants rs cs))))
 
@@ -43,9 +44,10 @@ AreReady file (Check wheel capture_name report cert o) =
 abbrev pub IsDenied : (List ℕ → Option (List ℕ)) → Order → Type 0
 IsDenied file (Check wheel capture_name report cert o) =
     (w : WheelParts) × ((capture : Capture) × ((rs : List Report) × ((cs : List CertLine) × (AreChecked file wheel capture_name report cert o w capture rs cs × (¬ IsValid w capture.instants rs cs)))))
-IsDenied file (Replay model capture_name o) = ⊥
+IsDenied file (Replay model capture_name cert o) = ⊥
 IsDenied file (Import source name) = ⊥
 IsDenied file (Size wheel) = ⊥
+IsDenied file (Compile wheel image) = ⊥
 
 -- the status is the one that the files make due, or want of memory: done where they are accepted, no where a check's certificate is not valid
 abbrev pub IsDue : (List ℕ → Option (List ℕ)) → Order → Status → Type 0

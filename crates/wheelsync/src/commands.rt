@@ -1,13 +1,14 @@
 //! Serving a command.
-ghost use Rattle.std.specs.Prelude.{◌≡◌, [], None, Err, map, string_bytes};
-ghost use Rattle.command_words.specs.Words.{command_of};
+ghost use Rattle.std.specs.Prelude.{◌≡◌, [], None, Err, map, option_and_then, string_bytes};
+ghost use Rattle.command_words.specs.Words.{command_of, writes_of};
 ghost use Rattle.run_ends.specs.Serving.{Served, stream};
 ghost use Rattle.wheelsync.specs.Commands.{IsWork};
 
 use crate::import::import;
-use crate::replay::replay;
+use crate::replay::replay_with;
 use check_command::check_files;
 use command_words::{Command, read_command};
+use compile_command::compile_file;
 use run_ends::{Cause, Done, hand_on};
 use shelf_io::{Shelf, Sink};
 use std::alloc::Global;
@@ -21,7 +22,8 @@ pub fn serve<S: Shelf, O: Sink>(
     out: &mut O,
 ) -> Result<Done, Cause>
     ensures untouched { command_of (map string_bytes words.now) ≡ None → S.view shelf.new ≡ S.view shelf.old }
-    ensures served { Served (IsWork (S.view shelf.old) (command_of (map string_bytes words.now))) None (S.view shelf.old) (S.view shelf.new)
+    ensures served { Served (IsWork (S.view shelf.old) (command_of (map string_bytes words.now)))
+        (option_and_then writes_of (command_of (map string_bytes words.now))) (S.view shelf.old) (S.view shelf.new)
         (stream (O.faults out.old) (O.taken out.old) (O.steady out.old)) (stream (O.faults out.new) (O.taken out.new) (O.steady out.new)) [] result }
     ensures handed { ¬ (result ≡ Err Cause.WriteFault) → O.waiting out.old ≡ 0 → O.waiting out.new ≡ 0 }
 {
@@ -31,14 +33,22 @@ pub fn serve<S: Shelf, O: Sink>(
             Command::Replay {
                 model,
                 capture,
+                cert,
                 options,
             },
-        ) => hand_on(replay(alloc, model, capture, options, shelf, out), out),
+        ) => hand_on(
+            replay_with(alloc, model, capture, cert, options, shelf, out),
+            out,
+        ),
         Some(Command::Import { source, name }) => hand_on(
             import(alloc, source, name, shelf, out),
             out,
         ),
         Some(Command::Size { wheel }) => hand_on(size(alloc, wheel, shelf, out), out),
+        Some(Command::Compile { wheel, image }) => hand_on(
+            compile_file(alloc, wheel, image, shelf),
+            out,
+        ),
         Some(
             Command::Check {
                 wheel,

@@ -13,7 +13,7 @@ mod tap;
 mod top;
 
 pub use commands::serve;
-pub use laws::{imports_end, one_report, replays_end};
+pub use laws::{certified_lines_are_the_report, imports_end, one_report, replays_end};
 pub use pair_certificate::report_line;
 pub use put::put_report;
 pub use run_ends::Status;

@@ -1,6 +1,6 @@
 //! The top call.
-ghost use Rattle.std.specs.Prelude.{◌≡◌, [], None, IsTrue, IfSome, map, string_bytes};
-ghost use Rattle.command_words.specs.Words.{command_of};
+ghost use Rattle.std.specs.Prelude.{◌≡◌, [], None, IsTrue, IfSome, map, option_and_then, string_bytes};
+ghost use Rattle.command_words.specs.Words.{command_of, writes_of};
 ghost use Rattle.run_ends.specs.Serving.{Ran, NoneFailed, WentOut, stream};
 ghost use Rattle.wheelsync.specs.Complete.{IsDue};
 ghost use Rattle.wheelsync.specs.Commands.{IsWork};
@@ -15,8 +15,12 @@ use std::alloc::Global;
 /// `replay MODEL CAPTURE` reads a wheel file and a capture, and writes a report line for each instant of the capture on `out`. A
 /// capture is a value change dump where its first byte past white space is a dollar sign, and else CSV. Where it has a fault, `out`
 /// has the lines of the instants whose stamps closed before it, `notes` has the fault's line, and the status is `Refused`.
+/// With `--cert FILE` the file gets the exact certificate of the report, a line after each line of the report. It is created once the
+/// capture is opened and before its first byte is read; where writing stops it has a front of the certificate, if it was created.
 /// `import SOURCE NAME` reads a C source, and writes the slots of its table of that name as a line of a wheel file. `size WHEEL` reads
-/// a wheel file, and writes how many places, cuts and states the wheel's table has.
+/// a wheel file, and writes how many places, cuts and states the wheel's table has. `compile WHEEL IMAGE` reads a wheel file, and the file
+/// IMAGE gets the image of the wheel's table. IMAGE is created once the image's bytes are made: where the wheel is refused, or passes a
+/// limit, no file is created or changed, and where writing stops IMAGE has a front of the image, if it was created.
 /// `check WHEEL CAPTURE REPORT CERT` reads a wheel file, a capture that is to end clean, a report and a certificate, and writes `yes` where
 /// the certificate is valid, and else `no` with the first instant that has a broken rule and the number of its first one; the status is
 /// then `No`. On `notes` comes one line, where the status is neither `Done` nor `No`. The taps are dropped untouched.
@@ -29,7 +33,8 @@ pub fn run<S: Shelf, O: Sink, N: Sink>(
     taps: Vec<Box<dyn Tap>>,
 ) -> Status
     // Some work that the words' relation allows is what the shelf, out and notes show of it, and the status is that of its end.
-    ensures ran { Ran (IsWork (S.view shelf.old) (command_of (map string_bytes words.now))) None (S.view shelf.old) (S.view shelf.new)
+    ensures ran { Ran (IsWork (S.view shelf.old) (command_of (map string_bytes words.now)))
+        (option_and_then writes_of (command_of (map string_bytes words.now))) (S.view shelf.old) (S.view shelf.new)
         (stream (O.faults out.old) (O.taken out.old) (O.steady out.old)) (stream (O.faults out.new) (O.taken out.new) (O.steady out.new))
         (stream (N.faults notes.old) (N.taken notes.old) (N.steady notes.old)) (stream (N.faults notes.new) (N.taken notes.new) (N.steady notes.new)) result }
 

@@ -1,7 +1,6 @@
-use Rattle.std.proofs.Common.{subst, ◌∙◌, sym}
+use Rattle.std.proofs.Common.{subst, ◌∙◌}
 use Rattle.std.specs.Io.KnownBytes.{Appends}
 use Rattle.std.specs.Prelude.{IsTrue}
-use Rattle.run_ends.specs.Statuses.{status_of}
 use Rattle.run_ends.specs.Notes.{note_of}
 use Rattle.run_ends.specs.Finishing.{HasNoted, FailedNote, notes_text}
 use Rattle.run_ends.proofs.Noting.{noted_after}

@@ -1,0 +1,316 @@
+-- A report and its certificate that are written line by line.
+use Rattle.std.proofs.Common.{◌≡◌, ℕ, zero, suc, ◌+◌, ◌<◌, ◌≤◌, ◌⊎◌, inl, inr, ℤ, ◌<ℤ◌, List, [], ◌∷◌, ◌++◌, length, reverse, take, drop, get_or, refl, sym, ap, ◌∙◌, subst, arith, add-one, append_assoc, append-nil, length-drop}
+use Rattle.std.proofs.lemmas.List.{length-take-le, length-reverse, reverse-append}
+use Rattle.std.proofs.lemmas.List.Elements.{All-append, All-cons}
+use Rattle.std.proofs.lemmas.Grind.{flat_map-append}
+use Rattle.std.proofs.Math.Seq.{take-length, take-suc}
+use Rattle.std.specs.Prelude.{All, Option, Some, None, IfSome, IsTrue, flat_map}
+use Rattle.std.specs.Io.KnownBytes.{Appends}
+use Rattle.std.proofs.KnownBytes.{Appends-trans}
+use Rattle.shelf_traits.specs.Shelf.{View, Position, WritesOn}
+use Rattle.wheel_types.specs.declared.parts.WheelParts.{WheelParts}
+use Rattle.wheel_types.specs.declared.instant.Instant.{Instant}
+use Rattle.wheel_types.specs.declared.verdict.Verdict.{Verdict}
+use Rattle.wheel_types.specs.Wheels.{IsWheel}
+use Rattle.wheel_types.specs.Verdicts.{IsRising}
+use Rattle.plain_motion.specs.declared.set.PlainSet.{PlainSet}
+use Rattle.plain_motion.specs.Memories.{last_time}
+use Rattle.plain_motion.specs.Sets.{StandsFor, wheel_of, last_of}
+use Rattle.pair_certificate.specs.declared.line.CertLine.{CertLine}
+use Rattle.pair_certificate.specs.Reports.{IsReportInRange, IsCertLineInRange}
+use Rattle.certificate_checker.specs.Exact.{AreExactLines}
+use Rattle.certificate_checker.specs.Reports.{report_of, reports_of}
+use Rattle.run_ends.specs.Stages.{Fellows, AreCut, lines_text, beside_text}
+use Rattle.run_ends.specs.Filing.{Grows, GrowsByFront}
+use Rattle.run_ends.specs.Prefixes.{AppendsPrefix}
+use Rattle.run_ends.specs.Serving.{Stream}
+use Rattle.run_ends.specs.declared.cause.Cause.{Cause}
+use Rattle.shelf_traits.specs.Count.{Rose}
+use Rattle.shelf_io.specs.Touching.{FailedWrite}
+use Rattle.wheel_types.specs.Texts.{report_line_text}
+use Rattle.certified_replay.specs.declared.lines.Lines.{Lines}
+use Rattle.certified_replay.specs.Lines.{AddsLines}
+use Rattle.certified_replay.specs.Certified.{AreCertified}
+use Rattle.certified_replay.specs.Puts.{GetsTexts, GetsCut, GetsLines, GetsCutLines, GetsBoth, GetsBothFront, StoppedBoth, stand_beside, fellow_of}
+use Rattle.certified_replay.proofs.Fellows.{exact_counts, pairs_of, reports_more, pairs_more, certified_by, believed_by, Goes, goes_on}
+
+-- ---- two texts
+
+-- nothing more
+pub stays : (v : View) (slot : ℕ) → Grows v v slot []
+stays v slot told text is = is ∙ sym (ap Some (append-nil text))
+
+-- and then more of both
+pub texts_after : (v u w : View) (slot : ℕ) (old mid new : Option (List ℕ)) (a b c d : List ℕ) → WritesOn v u slot → GetsTexts v u slot old mid a b → GetsTexts u w slot mid new c d → GetsTexts v w slot old new (a ++ c) (b ++ d)
+texts_after v u w slot old mid new a b c d keeps p q = record {
+  out = Appends-trans old mid new a c p.out q.out;
+  file = λ told text is.
+      let place : u.place ≡ v.place = keeps.place told in
+      let first : u.file (u.place slot).name ≡ Some (text ++ b) = subst (λ (at : ℕ → Position). u.file (at slot).name ≡ Some (text ++ b)) (sym place) (p.file told text is) in
+      let both : w.file (v.place slot).name ≡ Some ((text ++ b) ++ d) = subst (λ (at : ℕ → Position). w.file (at slot).name ≡ Some ((text ++ b) ++ d)) place (q.file (keeps.tells ∙ told) (text ++ b) first) in
+      both ∙ ap Some (append_assoc text b d);
+}
+
+-- a front of the line alone
+pub cut_line : (v : View) (slot : ℕ) (old new : Option (List ℕ)) (line beside text : List ℕ) → text ≡ line → AppendsPrefix old new text → GetsCut v v slot old new (stand_beside line beside)
+cut_line v slot old new line beside text is (k, (within, grown)) = record {
+  line = take k line;
+  beside = [];
+  are_cut = inl (k, (refl, refl));
+  texts = record { out = subst (λ l. Appends old new (take k l)) is grown; file = stays v slot };
+}
+
+-- the line, and a front of its fellow
+pub cut_beside : (v w : View) (slot : ℕ) (old new : Option (List ℕ)) (line beside text piece : List ℕ) → text ≡ line → piece ≡ beside → Appends old new text → GrowsByFront v w slot piece → GetsCut v w slot old new (stand_beside line beside)
+cut_beside v w slot old new line beside text piece is same grown (k, (within, more)) = record {
+  line = line;
+  beside = take k beside;
+  are_cut = inr (refl, (k, refl));
+  texts = record { out = subst (Appends old new) is grown; file = subst (λ l. Grows v w slot (take k l)) same more };
+}
+
+-- ---- one instant
+
+pub lines_put : (w : WheelParts) (set : PlainSet) (v u : View) (slot : ℕ) (old new : Option (List ℕ)) (i : Instant) (past : List Instant) (verdicts : List Verdict) (certificate : List CertLine) (lines : Lines)
+    → AddsLines w set i past verdicts certificate lines → GetsTexts v u slot old new lines.report.items lines.certificate.items → GetsLines w set v u slot old new i past verdicts certificate
+lines_put w set v u slot old new i past verdicts certificate lines a texts = record {
+  takes = a.takes;
+  texts = subst (GetsTexts v u slot old new (report_line_text (report_of (length past + 1) i a.takes.verdict))) a.line_text (subst (λ l. GetsTexts v u slot old new l lines.certificate.items) a.report_text texts);
+}
+
+pub lines_cut : (w : WheelParts) (set : PlainSet) (v u : View) (slot : ℕ) (old new : Option (List ℕ)) (i : Instant) (past : List Instant) (verdicts : List Verdict) (certificate : List CertLine) (lines : Lines)
+    → AddsLines w set i past verdicts certificate lines → GetsCut v u slot old new (stand_beside lines.report.items lines.certificate.items) → GetsCutLines w set v u slot old new i past verdicts certificate
+lines_cut w set v u slot old new i past verdicts certificate lines a cut = record {
+  takes = a.takes;
+  cut = subst (λ l. GetsCut v u slot old new (stand_beside (report_line_text (report_of (length past + 1) i a.takes.verdict)) l)) a.line_text (subst (λ l. GetsCut v u slot old new (stand_beside l lines.certificate.items)) a.report_text cut);
+}
+
+-- what stopped past calls on which no count rose
+pub stopped_past : (v u w : View) (old mid new : Stream) (slot : ℕ) (e : Cause) → WritesOn v u slot → mid.faults ≡ old.faults → u.faults_out ≡ v.faults_out → (IsTrue old.steady → IsTrue mid.steady) → StoppedBoth u w mid new e → StoppedBoth v w old new e
+stopped_past v u w old mid new slot e keeps same files still s = record {
+  kinds = s.kinds;
+  fault = λ is. by (s.fault is);
+  calm = λ is steady calm. s.calm is (still steady) (keeps.steady calm);
+  settled = λ n. let kept = s.settled n in (kept.0 ∙ same, kept.1 ∙ files);
+}
+  where
+    by : Rose mid.faults new.faults ⊎ FailedWrite u w → Rose old.faults new.faults ⊎ FailedWrite v w
+    by (inl rose) = inl (subst (λ n. Rose n new.faults) same rose)
+    by (inr failed) = inr (record { rose = subst (λ n. Rose n w.faults_out) files failed.rose; unsteady = λ calm. failed.unsteady (keeps.steady calm) })
+
+-- a shelf that nothing is written to
+pub unwritten : (v : View) (slot : ℕ) → WritesOn v v slot
+unwritten v slot = record {
+  no_less = omega arith;
+  reads = refl;
+  ways = refl;
+  tells = refl;
+  steady = λ h. h;
+  calm = λ h. refl;
+  place = λ h. refl;
+  files = λ h n d. refl;
+}
+
+-- ---- the first k instants
+
+-- they were taken, and out and the file have their lines
+pub record HasPut (first set : PlainSet) (v u : View) (slot : ℕ) (old new : Option (List ℕ)) (is : List Instant) (k : ℕ) : Type 0 where
+  pub verdicts : List Verdict
+  pub lines : List CertLine
+  pub window : List Instant
+  pub stands : StandsFor set (reverse (take k is)) verdicts
+  pub exact : AreExactLines (wheel_of first) (reverse (take k is)) verdicts lines window
+  pub wheel : wheel_of set ≡ wheel_of first
+  pub last : last_of set ≡ last_time (reverse (take k is))
+  pub reports : All IsReportInRange (reports_of 1 (take k is) (reverse verdicts))
+  pub certificate : All IsCertLineInRange (reverse lines)
+  pub texts : GetsTexts v u slot old new (lines_text (pairs_of (take k is) verdicts lines)) (beside_text (pairs_of (take k is) verdicts lines))
+
+-- none yet
+pub none_put : (first : PlainSet) (v : View) (slot : ℕ) (old : Option (List ℕ)) (is : List Instant) → StandsFor first [] [] → last_of first ≡ None → Appends old old [] → HasPut first first v v slot old old is 0
+none_put first v slot old is s l a = record {
+  verdicts = [];
+  lines = [];
+  window = [];
+  stands = s;
+  exact = refl;
+  wheel = refl;
+  last = l;
+  reports = none IsReportInRange;
+  certificate = none IsCertLineInRange;
+  texts = record { out = a; file = stays v slot };
+}
+  where
+    none : {X : Type 0} (P : X → Type 0) → All P []
+    none P k d h = absurd (omega (arith, h))
+
+reverse_next : (is : List Instant) (k : ℕ) (i : Instant) → k < length is → i ≡ get_or is k i → take (suc k) is ≡ take k is ++ i ∷ []
+reverse_next is k i h e = take-suc is k i h ∙ ap (λ j. take k is ++ j ∷ []) (sym e)
+
+past_next : (is : List Instant) (k : ℕ) (i : Instant) → k < length is → i ≡ get_or is k i → reverse (take (suc k) is) ≡ i ∷ reverse (take k is)
+past_next is k i h e = ap reverse (reverse_next is k i h e) ∙ reverse-append (take k is) (i ∷ [])
+
+past_at : (is : List Instant) (k : ℕ) (d : Instant) → k < length is → reverse (take (suc k) is) ≡ get_or is k d ∷ reverse (take k is)
+past_at is k d h = ap reverse (take-suc is k d h) ∙ reverse-append (take k is) (get_or is k d ∷ [])
+
+-- the next instant comes later than the last one
+pub later_than_last : (is : List Instant) (k : ℕ) (i : Instant) (last : Option ℤ) → IsRising is → k < length is → i ≡ get_or is k i → last ≡ last_time (reverse (take k is)) → IfSome last (λ t. t <ℤ i.time)
+later_than_last is zero i last r h here e = subst (λ o. IfSome o (λ t. t <ℤ i.time)) (sym e) tt
+later_than_last is (suc k) i last r h here e =
+    let before : k + 1 < length is = omega arith in
+    let below : k < length is = omega arith in
+    let same : last ≡ Some (get_or is k i).time = e ∙ ap last_time (past_at is k i below) in
+    let rises : (get_or is k i).time <ℤ (get_or is (suc k) i).time = rw add-one at (r k i before) in
+    subst (λ o. IfSome o (λ t. t <ℤ i.time)) (sym same) (subst (λ (j : Instant). (get_or is k i).time <ℤ j.time) (sym here) rises)
+
+-- how many instants were taken
+taken : (is : List Instant) (k : ℕ) → k < length is → length (take k is) ≡ k
+taken is k h = length-take-le k is (omega (arith, h))
+
+pub number_at : (is : List Instant) (k : ℕ) → k < length is → k + 1 ≡ length (reverse (take k is)) + 1
+number_at is k h = ap (λ n. n + 1) (sym (length-reverse (take k is) ∙ taken is k h))
+
+-- the pairs of one more instant
+next_pairs : (w : WheelParts) (is : List Instant) (k : ℕ) (i : Instant) (vs : List Verdict) (cs : List CertLine) (window : List Instant) (v : Verdict) (c : CertLine) → k < length is → i ≡ get_or is k i
+    → AreExactLines w (reverse (take k is)) vs cs window
+    → pairs_of (take (suc k) is) (v ∷ vs) (c ∷ cs) ≡ pairs_of (take k is) vs cs ++ fellow_of (report_of (length (reverse (take k is)) + 1) i v) c ∷ []
+next_pairs w is k i vs cs window v c h here x =
+    let n = exact_counts w (reverse (take k is)) vs cs window x in
+    let many = n.0 ∙ length-reverse (take k is) in
+    let as_many = n.1 ∙ length-reverse (take k is) in
+    let number : 1 + length (take k is) ≡ length (reverse (take k is)) + 1 = omega (arith, length-reverse (take k is)) in
+    ap (λ l. pairs_of l (v ∷ vs) (c ∷ cs)) (reverse_next is k i h here)
+    ∙ pairs_more (take k is) (i ∷ []) vs (v ∷ []) cs (c ∷ []) many as_many
+    ∙ ap (λ m. pairs_of (take k is) vs cs ++ fellow_of (report_of m i v) c ∷ []) number
+
+next_reports : (w : WheelParts) (is : List Instant) (k : ℕ) (i : Instant) (vs : List Verdict) (cs : List CertLine) (window : List Instant) (v : Verdict) → k < length is → i ≡ get_or is k i
+    → AreExactLines w (reverse (take k is)) vs cs window
+    → reports_of 1 (take (suc k) is) (reverse (v ∷ vs)) ≡ reports_of 1 (take k is) (reverse vs) ++ report_of (length (reverse (take k is)) + 1) i v ∷ []
+next_reports w is k i vs cs window v h here x =
+    let n = exact_counts w (reverse (take k is)) vs cs window x in
+    let number : 1 + length (take k is) ≡ length (reverse (take k is)) + 1 = omega (arith, length-reverse (take k is)) in
+    ap (λ l. reports_of 1 l (reverse (v ∷ vs))) (reverse_next is k i h here)
+    ∙ reports_more (take k is) (i ∷ []) vs (v ∷ []) (n.0 ∙ length-reverse (take k is))
+    ∙ ap (λ m. reports_of 1 (take k is) (reverse vs) ++ report_of m i v ∷ []) number
+
+all_one_more : {X : Type 0} (P : X → Type 0) (xs : List X) (x : X) → All P xs → P x → All P (xs ++ x ∷ [])
+all_one_more P xs x all here = All-append P xs (x ∷ []) all (All-cons P x [] here none)
+  where
+    none : All P []
+    none k d h = absurd (omega (arith, h))
+
+lines_more : (first rest : List Fellows) → lines_text (first ++ rest) ≡ lines_text first ++ lines_text rest
+lines_more first rest = flat_map-append (λ (f : Fellows). f.line) first rest
+
+beside_more : (first rest : List Fellows) → beside_text (first ++ rest) ≡ beside_text first ++ beside_text rest
+beside_more first rest = flat_map-append (λ (f : Fellows). f.beside) first rest
+
+-- the texts with one more pair
+one_pair : (v u w : View) (slot : ℕ) (old mid new : Option (List ℕ)) (first all : List Fellows) (f : Fellows) → WritesOn v u slot → all ≡ first ++ f ∷ [] → GetsTexts v u slot old mid (lines_text first) (beside_text first)
+    → GetsTexts u w slot mid new f.line f.beside → GetsTexts v w slot old new (lines_text all) (beside_text all)
+one_pair v u w slot old mid new first all f keeps is p q =
+    let line : f.line ≡ lines_text (f ∷ []) = sym (append-nil f.line) in
+    let beside : f.beside ≡ beside_text (f ∷ []) = sym (append-nil f.beside) in
+    let t = texts_after v u w slot old mid new (lines_text first) (beside_text first) (lines_text (f ∷ [])) (beside_text (f ∷ [])) keeps p
+    (subst (GetsTexts u w slot mid new (lines_text (f ∷ []))) beside (subst (λ l. GetsTexts u w slot mid new l f.beside) line q)) in
+    subst (λ l. GetsTexts v w slot old new (lines_text l) (beside_text l)) (sym is)
+    (subst (GetsTexts v w slot old new (lines_text (first ++ f ∷ []))) (sym (beside_more first (f ∷ [])))
+    (subst (λ l. GetsTexts v w slot old new l (beside_text first ++ beside_text (f ∷ []))) (sym (lines_more first (f ∷ []))) t))
+
+-- one more instant
+pub next_put : (first before after : PlainSet) (v u w : View) (slot : ℕ) (old mid new : Option (List ℕ)) (is : List Instant) (k : ℕ) (i : Instant) → k < length is → i ≡ get_or is k i → WritesOn v u slot
+    → (p : HasPut first before v u slot old mid is k) → wheel_of after ≡ wheel_of before → last_of after ≡ Some i.time
+    → ((past : List Instant) (verdicts : List Verdict) (certificate : List CertLine) (window : List Instant) → StandsFor before past verdicts → AreExactLines (wheel_of before) past verdicts certificate window → k + 1 ≡ length past + 1
+    → GetsLines (wheel_of before) after u w slot mid new i past verdicts certificate)
+    → HasPut first after v w slot old new is (k + 1)
+next_put first before after v u w slot old mid new is k i h here keeps p wheel last step = rw add-one (by g)
+  where
+    x : AreExactLines (wheel_of before) (reverse (take k is)) p.verdicts p.lines p.window
+    x = subst (λ wheel. AreExactLines wheel (reverse (take k is)) p.verdicts p.lines p.window) (sym p.wheel) p.exact
+
+    g : GetsLines (wheel_of before) after u w slot mid new i (reverse (take k is)) p.verdicts p.lines
+    g = step (reverse (take k is)) p.verdicts p.lines p.window p.stands x (number_at is k h)
+
+    by : GetsLines (wheel_of before) after u w slot mid new i (reverse (take k is)) p.verdicts p.lines → HasPut first after v w slot old new is (suc k)
+    by g =
+        let t = g.takes in
+        let past : reverse (take (suc k) is) ≡ i ∷ reverse (take k is) = past_next is k i h here in
+        let reports = next_reports (wheel_of first) is k i p.verdicts p.lines p.window t.verdict h here p.exact in
+        let pairs = next_pairs (wheel_of first) is k i p.verdicts p.lines p.window t.verdict t.line h here p.exact in
+        record {
+          verdicts = t.verdict ∷ p.verdicts;
+          lines = t.line ∷ p.lines;
+          window = t.window;
+          stands = subst (λ l. StandsFor after l (t.verdict ∷ p.verdicts)) (sym past) t.stands;
+          exact = subst (λ l. AreExactLines (wheel_of first) l (t.verdict ∷ p.verdicts) (t.line ∷ p.lines) t.window) (sym past)
+              (subst (λ wheel. AreExactLines wheel (i ∷ reverse (take k is)) (t.verdict ∷ p.verdicts) (t.line ∷ p.lines) t.window) p.wheel t.exact);
+          wheel = wheel ∙ p.wheel;
+          last = last ∙ ap last_time (sym past);
+          reports = subst (All IsReportInRange) (sym reports) (all_one_more IsReportInRange (reports_of 1 (take k is) (reverse p.verdicts)) (report_of (length (reverse (take k is)) + 1) i t.verdict) p.reports t.report_range);
+          certificate = subst (All IsCertLineInRange) (sym (reverse-append (t.line ∷ []) p.lines)) (all_one_more IsCertLineInRange (reverse p.lines) t.line p.certificate t.line_range);
+          texts = one_pair v u w slot old mid new (pairs_of (take k is) p.verdicts p.lines) (pairs_of (take (suc k) is) (t.verdict ∷ p.verdicts) (t.line ∷ p.lines)) (fellow_of (report_of (length (reverse (take k is)) + 1) i t.verdict) t.line)
+              keeps pairs p.texts g.texts;
+        }
+
+-- ---- where writing stopped
+
+some_first : {X : Type 0} (xs : List X) (n : ℕ) → 0 < n → length xs ≡ n → (x : X) × ((rest : List X) × (xs ≡ x ∷ rest))
+some_first [] n h e = absurd (omega (arith, h, e))
+some_first (x ∷ rest) n h e = (x, (rest, refl))
+
+pub stopped : (first before after : PlainSet) (v u w : View) (slot : ℕ) (old mid new : Option (List ℕ)) (is : List Instant) (k : ℕ) (i : Instant) → IsWheel (wheel_of first) → IsRising is → k < length is → i ≡ get_or is k i → WritesOn v u slot
+    → (p : HasPut first before v u slot old mid is k)
+    → ((past : List Instant) (verdicts : List Verdict) (certificate : List CertLine) (window : List Instant) → StandsFor before past verdicts → AreExactLines (wheel_of before) past verdicts certificate window → k + 1 ≡ length past + 1
+    → GetsTexts u w slot mid new [] [] ⊎ GetsCutLines (wheel_of before) after u w slot mid new i past verdicts certificate)
+    → GetsBothFront (wheel_of first) is v w slot old new
+stopped first before after v u w slot old mid new is k i wheel rising h here keeps p step = by (step (reverse (take k is)) p.verdicts p.lines p.window p.stands x (number_at is k h))
+  where
+    x : AreExactLines (wheel_of before) (reverse (take k is)) p.verdicts p.lines p.window
+    x = subst (λ wheel. AreExactLines wheel (reverse (take k is)) p.verdicts p.lines p.window) (sym p.wheel) p.exact
+
+    by : GetsTexts u w slot mid new [] [] ⊎ GetsCutLines (wheel_of before) after u w slot mid new i (reverse (take k is)) p.verdicts p.lines → GetsBothFront (wheel_of first) is v w slot old new
+    by (inl none) =
+        let more = goes_on (wheel_of first) is k p.verdicts p.lines p.window wheel rising p.exact in
+        let f = some_first more.rest (length (drop k is)) (omega (arith, h, length-drop k is)) more.many in
+        record {
+          before = pairs_of (take k is) p.verdicts p.lines;
+          cut = f.0;
+          rest = f.1.0;
+          certified = subst (λ l. AreCertified (wheel_of first) is (pairs_of (take k is) p.verdicts p.lines ++ l)) f.1.1 more.certified;
+          line = [];
+          beside = [];
+          are_cut = inl (0, (refl, refl));
+          texts = texts_after v u w slot old mid new (lines_text (pairs_of (take k is) p.verdicts p.lines)) (beside_text (pairs_of (take k is) p.verdicts p.lines)) [] [] keeps p.texts none;
+        }
+    by (inr g) =
+        let t = g.takes in
+        let past : reverse (take (suc k) is) ≡ i ∷ reverse (take k is) = past_next is k i h here in
+        let f = fellow_of (report_of (length (reverse (take k is)) + 1) i t.verdict) t.line in
+        let exact : AreExactLines (wheel_of first) (reverse (take (suc k) is)) (t.verdict ∷ p.verdicts) (t.line ∷ p.lines) t.window
+        = subst (λ l. AreExactLines (wheel_of first) l (t.verdict ∷ p.verdicts) (t.line ∷ p.lines) t.window) (sym past)
+        (subst (λ wheel. AreExactLines wheel (i ∷ reverse (take k is)) (t.verdict ∷ p.verdicts) (t.line ∷ p.lines) t.window) p.wheel t.exact) in
+        let more = goes_on (wheel_of first) is (suc k) (t.verdict ∷ p.verdicts) (t.line ∷ p.lines) t.window wheel rising exact in
+        let pairs = next_pairs (wheel_of first) is k i p.verdicts p.lines p.window t.verdict t.line h here p.exact in
+        record {
+          before = pairs_of (take k is) p.verdicts p.lines;
+          cut = f;
+          rest = more.rest;
+          certified = subst (AreCertified (wheel_of first) is) (append_assoc (pairs_of (take k is) p.verdicts p.lines) (f ∷ []) more.rest) (subst (λ l. AreCertified (wheel_of first) is (l ++ more.rest)) pairs more.certified);
+          line = g.cut.line;
+          beside = g.cut.beside;
+          are_cut = g.cut.are_cut;
+          texts = texts_after v u w slot old mid new (lines_text (pairs_of (take k is) p.verdicts p.lines)) (beside_text (pairs_of (take k is) p.verdicts p.lines)) g.cut.line g.cut.beside keeps p.texts g.cut.texts;
+        }
+
+-- ---- all instants
+
+pub all_put : (first set : PlainSet) (v u : View) (slot : ℕ) (old new : Option (List ℕ)) (is : List Instant) → IsWheel (wheel_of first) → IsRising is → HasPut first set v u slot old new is (length is) → GetsBoth (wheel_of first) is v u slot old new
+all_put first set v u slot old new is wheel rising p =
+    let all : take (length is) is ≡ is = take-length is in
+    let exact : AreExactLines (wheel_of first) (reverse is) p.verdicts p.lines p.window = subst (λ l. AreExactLines (wheel_of first) (reverse l) p.verdicts p.lines p.window) all p.exact in
+    record {
+      all = pairs_of is p.verdicts p.lines;
+      certified = certified_by (wheel_of first) is p.verdicts p.lines p.window exact;
+      texts = subst (λ l. GetsTexts v u slot old new (lines_text (pairs_of l p.verdicts p.lines)) (beside_text (pairs_of l p.verdicts p.lines))) all p.texts;
+      believed = believed_by (wheel_of first) is p.verdicts p.lines p.window wheel rising exact (subst (λ l. All IsReportInRange (reports_of 1 l (reverse p.verdicts))) all p.reports) p.certificate;
+    }

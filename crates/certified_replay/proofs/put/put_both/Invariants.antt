@@ -1,0 +1,14 @@
+use Rattle.std.proofs.Common.{◌≡◌}
+use Rattle.std.specs.Prelude.{IsTrue}
+use Rattle.shelf_traits.specs.Shelf.{WritesOn}
+use Rattle.certified_replay.proofs.Putting.{HasPut}
+use Rattle.certified_replay.proofs.put.put_both.Given as goal
+
+abbrev pub invariant-loop-number : goal.invariant-loop-number
+invariant-loop-number g l = record {
+  put : HasPut l.fn.set l.set (g.S.Shelf.view l.fn.shelf) (g.S.Shelf.view l.shelf) l.slot (g.O.Sink.taken l.fn.out) (g.O.Sink.taken l.out) l.instants l.number;
+  keeps : WritesOn (g.S.Shelf.view l.fn.shelf) (g.S.Shelf.view l.shelf) l.slot;
+  steady : IsTrue (g.O.Sink.steady l.fn.out) → IsTrue (g.O.Sink.steady l.out);
+  same : g.O.Sink.faults l.out ≡ g.O.Sink.faults l.fn.out;
+  files : (g.S.Shelf.view l.shelf).faults_out ≡ (g.S.Shelf.view l.fn.shelf).faults_out;
+}

@@ -1,0 +1,5 @@
+pub mod Lines
+pub mod Certified
+pub mod Puts
+pub mod Openings
+pub mod Laws

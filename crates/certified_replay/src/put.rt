@@ -1,0 +1,107 @@
+//! Writing a report on out and its exact certificate into a file, line after line.
+ghost use Rattle.std.specs.Prelude.{◌≡◌, ◌+◌, ◌≤◌, ◌^◌, ◌∷◌, [], ◌<ℤ◌, ◌⊎◌, List, length, Some, None, IfErr, IfSome, OnOk, OnErr, IsTrue, unsigned_abs};
+ghost use Rattle.shelf_traits.specs.Shelf.{IsWriter, WritesOn};
+ghost use Rattle.wheel_types.specs.declared.instant.Instant.{Instant as Moment};
+ghost use Rattle.wheel_types.specs.declared.verdict.Verdict.{Verdict as Judgement};
+ghost use Rattle.wheel_types.specs.Verdicts.{IsRising, AreWithin};
+ghost use Rattle.wheel_types.specs.Wheels.{IsWheel};
+ghost use Rattle.plain_motion.specs.Sets.{StandsFor, wheel_of, last_of};
+ghost use Rattle.pair_certificate.specs.declared.line.CertLine.{CertLine as Record};
+ghost use Rattle.certificate_checker.specs.Exact.{AreExactLines};
+ghost use Rattle.run_ends.specs.Serving.{stream};
+ghost use Rattle.certified_replay.specs.Puts.{StoppedBoth, GetsTexts, GetsCut, GetsLines, GetsCutLines, GetsBoth, GetsBothFront, stand_beside};
+
+use crate::lines::{Lines, both_lines};
+use plain_motion::PlainSet;
+use run_ends::{Cause, put, put_piece};
+use shelf_io::{Shelf, Sink};
+use std::alloc::Global;
+use wheel_types::{Instant, Memory};
+
+/// Writes a line of a report on out, and then the line beside it into the file of a slot.
+fn put_lines<S: Shelf, O: Sink>(
+    shelf: &mut S,
+    slot: u32,
+    out: &mut O,
+    lines: &Lines,
+) -> Result<(), Cause>
+    requires writer { IsWriter (S.view shelf.old) slot }
+    ensures keeps { WritesOn (S.view shelf.old) (S.view shelf.new) slot }
+    ensures later { O.faults out.old ≤ O.faults out.new }
+    ensures steady { IsTrue (O.steady out.old) → IsTrue (O.steady out.new) }
+    ensures ok { OnOk result (GetsTexts (S.view shelf.old) (S.view shelf.new) slot (O.taken out.old) (O.taken out.new) lines.now.report.items lines.now.certificate.items) }
+    ensures quiet { OnOk result ((O.faults out.new ≡ O.faults out.old) × ((S.view shelf.new).faults_out ≡ (S.view shelf.old).faults_out)) }
+    ensures err { OnErr result (GetsCut (S.view shelf.old) (S.view shelf.new) slot (O.taken out.old) (O.taken out.new) (stand_beside lines.now.report.items lines.now.certificate.items)) }
+    ensures stopped { IfErr result (StoppedBoth (S.view shelf.old) (S.view shelf.new)
+        (stream (O.faults out.old) (O.taken out.old) (O.steady out.old)) (stream (O.faults out.new) (O.taken out.new) (O.steady out.new))) }
+{
+    put(out, &lines.report)?;
+    put_piece(shelf, slot, &lines.certificate)
+}
+
+/// Takes one more instant, and writes its two lines.
+fn put_instant<S: Shelf, O: Sink>(
+    alloc: Global,
+    shelf: &mut S,
+    slot: u32,
+    out: &mut O,
+    set: &mut PlainSet,
+    index: u64,
+    instant: &Instant,
+) -> Result<(), Cause>
+    requires writer { IsWriter (S.view shelf.old) slot }
+    requires later { IfSome (last_of set.old) (λ t. t <ℤ instant.now.time) }
+    requires size { unsigned_abs instant.now.time ≤ 10 ^ 24 }
+    ensures keeps { WritesOn (S.view shelf.old) (S.view shelf.new) slot }
+    ensures later { O.faults out.old ≤ O.faults out.new }
+    ensures steady { IsTrue (O.steady out.old) → IsTrue (O.steady out.new) }
+    ensures last { OnOk result (last_of set.new ≡ Some instant.now.time) }
+    ensures wheel { wheel_of set.new ≡ wheel_of set.old }
+    ensures quiet { OnOk result ((O.faults out.new ≡ O.faults out.old) × ((S.view shelf.new).faults_out ≡ (S.view shelf.old).faults_out)) }
+    ensures ok { OnOk result ((past : List Moment) (verdicts : List Judgement) (certificate : List Record) (window : List Moment)
+        → StandsFor set.old past verdicts → AreExactLines (wheel_of set.old) past verdicts certificate window → index ≡ length past + 1
+        → GetsLines (wheel_of set.old) set.new (S.view shelf.old) (S.view shelf.new) slot (O.taken out.old) (O.taken out.new) instant.now past verdicts certificate) }
+    ensures err { OnErr result ((past : List Moment) (verdicts : List Judgement) (certificate : List Record) (window : List Moment)
+        → StandsFor set.old past verdicts → AreExactLines (wheel_of set.old) past verdicts certificate window → index ≡ length past + 1
+        → GetsTexts (S.view shelf.old) (S.view shelf.new) slot (O.taken out.old) (O.taken out.new) [] []
+        ⊎ GetsCutLines (wheel_of set.old) set.new (S.view shelf.old) (S.view shelf.new) slot (O.taken out.old) (O.taken out.new) instant.now past verdicts certificate) }
+    ensures stopped { IfErr result (StoppedBoth (S.view shelf.old) (S.view shelf.new)
+        (stream (O.faults out.old) (O.taken out.old) (O.steady out.old)) (stream (O.faults out.new) (O.taken out.new) (O.steady out.new))) }
+{
+    let lines = match both_lines(alloc, set, index, instant) {
+        Ok(lines) => lines,
+        Err(Memory) => return Err(Cause::Memory),
+    };
+    put_lines(shelf, slot, out, &lines)
+}
+
+/// Writes the report of instants whose times rise on out, and its exact certificate into the file of a slot: after each line the one
+/// beside it. It asks a fresh set of a wheel.
+pub fn put_both<S: Shelf, O: Sink>(
+    alloc: Global,
+    shelf: &mut S,
+    slot: u32,
+    out: &mut O,
+    set: &mut PlainSet,
+    instants: &[Instant],
+) -> Result<(), Cause>
+    requires writer { IsWriter (S.view shelf.old) slot }
+    requires wheel { IsWheel (wheel_of set.old) }
+    requires stands { StandsFor set.old [] [] }
+    requires fresh { last_of set.old ≡ None }
+    requires rising { IsRising instants.now }
+    requires sizes { AreWithin (10 ^ 24) instants.now }
+    ensures keeps { WritesOn (S.view shelf.old) (S.view shelf.new) slot }
+    ensures later { O.faults out.old ≤ O.faults out.new }
+    ensures steady { IsTrue (O.steady out.old) → IsTrue (O.steady out.new) }
+    ensures quiet { OnOk result ((O.faults out.new ≡ O.faults out.old) × ((S.view shelf.new).faults_out ≡ (S.view shelf.old).faults_out)) }
+    ensures ok { OnOk result (GetsBoth (wheel_of set.old) instants.now (S.view shelf.old) (S.view shelf.new) slot (O.taken out.old) (O.taken out.new)) }
+    ensures err { OnErr result (GetsBothFront (wheel_of set.old) instants.now (S.view shelf.old) (S.view shelf.new) slot (O.taken out.old) (O.taken out.new)) }
+    ensures stopped { IfErr result (StoppedBoth (S.view shelf.old) (S.view shelf.new)
+        (stream (O.faults out.old) (O.taken out.old) (O.steady out.old)) (stream (O.faults out.new) (O.taken out.new) (O.steady out.new))) }
+{
+    for (number, instant) in instants.iter().enumerate() {
+        put_instant(alloc, shelf, slot, out, set, number as u64 + 1, instant)?;
+    }
+    Ok(())
+}

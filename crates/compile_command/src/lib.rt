@@ -1,0 +1,8 @@
+//! The command `compile`: a file gets the image of a wheel's table.
+#![tactic(auto)]
+
+mod image;
+mod laws;
+
+pub use image::compile_file;
+pub use laws::compiles_end;

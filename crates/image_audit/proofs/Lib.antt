@@ -1,0 +1,14 @@
+pub mod Listed
+pub mod Sizes
+pub mod SetLaws
+pub mod Numbering
+pub mod Firsts
+pub mod StartLaws
+pub mod RowLaws
+pub mod Found
+pub mod Reaching
+pub mod SoundTables
+pub mod Faultless
+pub mod OneAlphabet
+pub mod OneSound
+pub mod Exact

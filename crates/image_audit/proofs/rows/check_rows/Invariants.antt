@@ -1,0 +1,12 @@
+use Rattle.std.proofs.Common.{◌≡◌, length}
+use Rattle.place_words.specs.Words.{words_for}
+use Rattle.position_nfa.specs.Alphabets.{count}
+use Rattle.position_nfa.specs.Views.{alphabet}
+use Rattle.image_audit.specs.Agreements.{EntriesTo}
+use Rattle.image_audit.proofs.rows.check_rows.Given as goal
+
+abbrev pub invariant-loop-q : goal.invariant-loop-q
+invariant-loop-q l = record {
+  due : EntriesTo (alphabet l.nfa) l.view.bytes.now l.q 0;
+  room : length l.room.items ≡ words_for (count (alphabet l.nfa));
+}

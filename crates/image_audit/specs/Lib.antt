@@ -1,0 +1,4 @@
+pub mod Agreements
+pub mod Differences
+pub mod Walks
+pub mod Audits

@@ -1,0 +1,4 @@
+pub mod Backs
+pub mod Windows
+pub mod Steps
+pub mod Whole

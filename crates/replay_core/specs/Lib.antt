@@ -1,0 +1,5 @@
+pub mod Counts
+pub mod Told
+pub mod Lines
+pub mod Sessions
+pub mod Laws

@@ -1,0 +1,10 @@
+pub mod Bounds
+pub mod Counting
+pub mod Tables
+pub mod Letters
+pub mod Columns
+pub mod Instants
+pub mod Rising
+pub mod Holding
+pub mod Walks
+pub mod Known

@@ -1,0 +1,4 @@
+pub mod Alphabet
+pub mod Windows
+pub mod Holding
+pub mod Laws

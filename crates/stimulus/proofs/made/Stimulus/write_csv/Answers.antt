@@ -1,0 +1,9 @@
+use Rattle.std.proofs.Common.{sym, subst}
+use Rattle.stimulus_files.specs.Written.{AreSmall}
+use Rattle.stimulus.proofs.SmallIsFact.{known_small}
+use Rattle.stimulus.proofs.made.Stimulus.write_csv.Goals as goal
+
+pub write_csv-requires-clause-small : goal.write_csv-requires-clause-small
+write_csv-requires-clause-small c =
+    let made = c.args.self.now in
+    subst (AreSmall made.watch) (sym c.as_slice.ensures.value) (known_small made.watch made.instants.items made.small)

@@ -1,0 +1,16 @@
+use Rattle.std.proofs.Common.{◌≡◌, List, ◌∷◌}
+use Rattle.capture_core.specs.declared.capture.Stamp.{Stamp}
+use Rattle.capture_core.specs.Stamps.{known_after}
+use Rattle.stimulus_files.specs.Files.{csv_text}
+use Rattle.stimulus_files.specs.Merges.{IsWithin, left_count, Stands}
+use Rattle.stimulus_files.proofs.csv.write_csv.Given as goal
+
+abbrev pub invariant-stamps : goal.invariant-stamps
+invariant-stamps l = record {
+  within : IsWithin l.instants l.merge;
+  told : (s : Stamp) × (past : List Stamp) × Stands l.fn.watch l.instants s past l.merge × (l.known ≡ known_after (s ∷ past))
+      × (l.text.items ≡ csv_text l.fn.watch (s ∷ past));
+}
+
+abbrev pub decreases-stamps : goal.decreases-stamps
+decreases-stamps l = left_count l.instants l.merge

@@ -1,0 +1,13 @@
+pub mod SecondsRead
+pub mod TokensRead
+pub mod HeadersRead
+pub mod VcdRead
+pub mod RowsRead
+pub mod FileStamps
+pub mod VcdBack
+pub mod TableStamps
+pub mod TableRecords
+pub mod TableColumns
+pub mod TableRows
+pub mod TablesBack
+pub mod FilesBack
