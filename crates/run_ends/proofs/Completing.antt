@@ -7,7 +7,8 @@ use Rattle.run_ends.specs.declared.cause.Done.TheVariants as done
 use Rattle.run_ends.specs.declared.cause.Cause.{Cause}
 use Rattle.run_ends.specs.declared.cause.Cause.TheVariants as cause
 use Rattle.run_ends.specs.Works.{Work, Told, Reads, Judges, Writes, HandsOn, StopsOpen, StopsRead, StopsJudge, StopsWrite, stopped, Went}
-use Rattle.run_ends.specs.Stages.{Makes, HasMade}
+use Rattle.run_ends.specs.Stages.{Makes, HasMade, Past, Opens, Closes, Takes, IsClosed, unclosed}
+use Rattle.run_ends.specs.Lines.{MarkedLine, WritesLines, StoppedWithin, text_of, marks_of}
 
 -- a fact of the end, by the ways in which a file can go
 pub reads_end : {X : Type 0} (v : View) (name : List ℕ) (gives : Cause → Type 0) (accepts : X → Type 0) (next : X → Work → Type 0) (P : Result Done Cause → Type 0) (work : Work)
@@ -128,3 +129,49 @@ makes_end name due P work whole stop m = by m.made
     by (inl is) = subst (λ (k : Work). P k.end) (sym is) whole
     by (inr (inl (e, (k, (s, (within, is)))))) = subst (λ (k : Work). P k.end) (sym is) (stop e s)
     by (inr (inr (e, (s, is)))) = subst (λ (k : Work). P k.end) (sym is) (stop e s)
+
+-- ---- taps
+
+-- a file that is opened
+pub opens_end : (v : View) (name : List ℕ) (next : Work → Type 0) (P : Result Done Cause → Type 0) (work : Work)
+    → ((e : Cause) → StopsOpen v name e → P (Err e)) → ((rest : Work) → next rest → P rest.end) → Opens v name next work → P work.end
+opens_end v name next P work opening go r = by r.went
+  where
+    by : ((e : Cause) × (StopsOpen v name e × (work ≡ stopped [] e))) ⊎ Past name next work → P work.end
+    by (inl (e, (s, is))) = subst (λ (k : Work). P k.end) (sym is) (opening e s)
+    by (inr (taken, (rest, (n, is)))) = subst (λ (k : Work). P k.end) (sym is) (go rest n)
+
+-- and then taken
+pub takes_end : {X : Type 0} (v : View) (gives : Cause → Type 0) (accepts : X → Type 0) (next : X → Work → Type 0) (P : Result Done Cause → Type 0) (work : Work)
+    → ((e : Cause) → StopsRead v gives e → P (Err e)) → ((x : X) → Told v (accepts x) → next x work → P work.end) → Takes v gives accepts next work → P work.end
+takes_end {X} v gives accepts next P work reading go r = by r.went
+  where
+    by : ((e : Cause) × (StopsRead v gives e × (work ≡ stopped [] e))) ⊎ ((x : X) × (Told v (accepts x) × next x work)) → P work.end
+    by (inl (e, (s, is))) = subst (λ (k : Work). P k.end) (sym is) (reading e s)
+    by (inr (x, (a, n))) = go x a n
+
+unclosed_end : (P : Result Done Cause → Type 0) (end : Result Done Cause) → P end → P (Err cause.Memory) → P (unclosed end)
+unclosed_end P (Ok x) p m = m
+unclosed_end P (Err cause.WriteFault) p m = p
+unclosed_end P (Err cause.Memory) p m = m
+unclosed_end P (Err cause.ReadFault) p m = m
+unclosed_end P (Err cause.Usage) p m = m
+unclosed_end P (Err (cause.Refused r)) p m = m
+unclosed_end P (Err (cause.Limit l)) p m = m
+
+-- taps that are closed
+pub closes_end : (tails : List ℕ → List ℕ) (next : Work → Type 0) (P : Result Done Cause → Type 0) (work : Work) → ((rest : Work) → next rest → P rest.end) → P (Err cause.Memory) → Closes tails next work → P work.end
+closes_end tails next P work as_before memory c = by c.closed
+  where
+    by : IsClosed tails c.rest work → P work.end
+    by (inl (n, is)) = subst (λ (k : Work). P k.end) (sym is) (as_before c.rest c.went)
+    by (inr is) = subst (λ (k : Work). P k.end) (sym is) (unclosed_end P c.rest.end (as_before c.rest c.went) memory)
+
+-- lines that taps are told of
+pub lines_end : (due : List MarkedLine → Result Done Cause → Type 0) (P : Result Done Cause → Type 0) (work : Work) → ((all : List MarkedLine) (end : Result Done Cause) → due all end → P end)
+    → ((e : Cause) → StopsWrite e → P (Err e)) → WritesLines due work → P work.end
+lines_end due P work whole stop r = by r.went
+  where
+    by : ((all : List MarkedLine) × ((end : Result Done Cause) × (due all end × (work ≡ record { opened = []; out = text_of all; made = None; marks = marks_of all; tails = []; end = end })))) ⊎ StoppedWithin due work → P work.end
+    by (inl (all, (end, (d, is)))) = subst (λ (k : Work). P k.end) (sym is) (whole all end d)
+    by (inr s) = subst (λ (k : Work). P k.end) (sym s.came) (stop s.why s.stops)

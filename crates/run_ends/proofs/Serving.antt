@@ -46,7 +46,7 @@ stops t v w name gives accepts next writes out e (rose, inl (touches, s)) = reco
   out = Appends-nil out.taken;
   shelf = touches_lifted v w [] writes touches;
   read = λ is. let same : e ≡ cause.ReadFault = cc in rose.rose same;
-  read_settled = λ n m. rose.stays (λ is. n (ap Err is));
+  read_settled = λ n m o. rose.stays (λ is. n (ap Err is));
   write = λ is. let same : e ≡ cause.WriteFault = cc in absurd (not_opening t name e s same);
   write_settled = λ n. (refl, touches.counts_out);
   calm = λ is still steady. let same : e ≡ cause.WriteFault = cc in not_opening t name e s same;
@@ -61,7 +61,7 @@ stops t v w name gives accepts next writes out e (rose, inr (read, s)) = record 
   out = Appends-nil out.taken;
   shelf = touches_lifted v w (read_slot name read.taken ∷ []) writes read.touches;
   read = λ is. let same : e ≡ cause.ReadFault = cc in rose.rose same;
-  read_settled = λ n m. rose.stays (λ is. n (ap Err is));
+  read_settled = λ n m o. rose.stays (λ is. n (ap Err is));
   write = λ is. let same : e ≡ cause.WriteFault = cc in absurd (not_reading t gives e s same);
   write_settled = λ n. (refl, read.touches.counts_out);
   calm = λ is still steady. let same : e ≡ cause.WriteFault = cc in not_reading t gives e s same;
@@ -85,7 +85,7 @@ goes_on t v u w name gives accepts next x writes old new tails end read (a, same
   out = s.out;
   shelf = touches_after v u w (read_slot name read.taken) s.work.opened writes s.work.made read.touches s.shelf;
   read = λ is. rose_before v.faults_in u.faults_in w.faults_in read.touches.counts_in (s.read is);
-  read_settled = λ n m. s.read_settled n m ∙ same;
+  read_settled = λ n m o. s.read_settled n m o ∙ same;
   write = λ is. by_write (s.write is);
   write_settled = λ n. let kept = s.write_settled n in (kept.0, kept.1 ∙ read.touches.counts_out);
   calm = λ is still steady. s.calm is still (read.touches.steady steady);
@@ -104,7 +104,7 @@ IsCalm (Err (cause.Refused r)) = ⊤
 IsCalm (Err (cause.Limit l)) = ⊤
 IsCalm (Err e) = ⊥
 
-calm_read : (end : Result Done Cause) → IsCalm end → end ≡ Err cause.ReadFault → ⊥
+pub calm_read : (end : Result Done Cause) → IsCalm end → end ≡ Err cause.ReadFault → ⊥
 calm_read (Ok x) c is = cc
 calm_read (Err (cause.Refused r)) c is = cc
 calm_read (Err (cause.Limit l)) c is = cc
@@ -113,7 +113,7 @@ calm_read (Err cause.ReadFault) c is = c
 calm_read (Err cause.WriteFault) c is = c
 calm_read (Err cause.Memory) c is = c
 
-calm_write : (end : Result Done Cause) → IsCalm end → end ≡ Err cause.WriteFault → ⊥
+pub calm_write : (end : Result Done Cause) → IsCalm end → end ≡ Err cause.WriteFault → ⊥
 calm_write (Ok x) c is = cc
 calm_write (Err (cause.Refused r)) c is = cc
 calm_write (Err (cause.Limit l)) c is = cc
@@ -126,14 +126,14 @@ calm_write (Err cause.Memory) c is = c
 pub wrote : (due : List ℕ → Result Done Cause → Type 0) (writes : Option (List ℕ)) (v : View) (old new : Stream) (text : List ℕ) (end : Result Done Cause)
     → due text end → IsCalm end → Appends old.taken new.taken text → new.faults ≡ old.faults → (IsTrue old.steady → IsTrue new.steady) → Served (Writes due) writes v v old new [] end
 wrote due writes v old new text end d c a same still = record {
-  work = record { opened = []; out = text; made = None; tails = []; end = end };
+  work = record { opened = []; out = text; made = None; marks = []; tails = []; end = end };
   allowed = inl (text, (end, (d, refl)));
   ends = refl;
   closes = refl;
   out = a;
   shelf = untouched v writes;
   read = λ is. absurd (calm_read end c is);
-  read_settled = λ n m. refl;
+  read_settled = λ n m o. refl;
   write = λ is. absurd (calm_write end c is);
   write_settled = λ n. (same, refl);
   calm = λ is steady calm. calm_write end c is;
@@ -141,7 +141,7 @@ wrote due writes v old new text end d c a same still = record {
   steady = still;
 }
 
-no_read : (e : Cause) → StopsWrite e → e ≡ cause.ReadFault → ⊥
+pub no_read : (e : Cause) → StopsWrite e → e ≡ cause.ReadFault → ⊥
 no_read cause.WriteFault s is = cc
 no_read cause.Memory s is = cc
 no_read cause.ReadFault s is = s
@@ -170,7 +170,7 @@ wrote_front due writes v old new text end e d s (k, (within, a)) rose calm still
   out = a;
   shelf = untouched v writes;
   read = λ is. let same : e ≡ cause.ReadFault = cc in absurd (no_read e s same);
-  read_settled = λ n m. refl;
+  read_settled = λ n m o. refl;
   write = λ is. let same : e ≡ cause.WriteFault = cc in inl (rose.rose same);
   write_settled = λ n. (rose.stays (λ is. n (ap Err is)), refl);
   calm = λ is steady files. let same : e ≡ cause.WriteFault = cc in calm same steady;
@@ -181,14 +181,14 @@ wrote_front due writes v old new text end e d s (k, (within, a)) rose calm still
 -- a file was made of a text that is due
 pub made : (name : List ℕ) (due : List ℕ → Type 0) (v w : View) (out : Stream) (text : List ℕ) → due text → HasText v w name text → Served (Makes name due) (Some name) v w out out [] (Ok done.Whole)
 made name due v w out text d h = record {
-  work = record { opened = write_slot name ∷ []; out = []; made = Some text; tails = []; end = Ok done.Whole };
+  work = record { opened = write_slot name ∷ []; out = []; made = Some text; marks = []; tails = []; end = Ok done.Whole };
   allowed = record { text = text; is_due = d; made = inl refl };
   ends = refl;
   closes = refl;
   out = Appends-nil out.taken;
   shelf = h.touches;
   read = λ is. absurd (calm_read (Ok done.Whole) tt is);
-  read_settled = λ n m. h.reads;
+  read_settled = λ n m o. h.reads;
   write = λ is. absurd (calm_write (Ok done.Whole) tt is);
   write_settled = λ n. (refl, h.writes);
   calm = λ is still steady. calm_write (Ok done.Whole) tt is;
@@ -207,7 +207,7 @@ not_made name due v w out text e d (inl h) = record {
   out = Appends-nil out.taken;
   shelf = h.touches;
   read = λ is. let same : e ≡ cause.ReadFault = cc in absurd (no_read e h.stopped.kinds same);
-  read_settled = λ n m. h.stopped.reads;
+  read_settled = λ n m o. h.stopped.reads;
   write = λ is. let same : e ≡ cause.WriteFault = cc in inr (h.stopped.fault same);
   write_settled = λ n. (refl, h.stopped.settled (λ is. n (ap Err is)));
   calm = λ is still steady. let same : e ≡ cause.WriteFault = cc in (h.stopped.fault same).unsteady steady;
@@ -222,7 +222,7 @@ not_made name due v w out text e d (inr h) = record {
   out = Appends-nil out.taken;
   shelf = h.touches;
   read = λ is. let same : e ≡ cause.ReadFault = cc in absurd (no_read e h.stopped.kinds same);
-  read_settled = λ n m. h.stopped.reads;
+  read_settled = λ n m o. h.stopped.reads;
   write = λ is. let same : e ≡ cause.WriteFault = cc in inr (h.stopped.fault same);
   write_settled = λ n. (refl, h.stopped.settled (λ is. n (ap Err is)));
   calm = λ is still steady. let same : e ≡ cause.WriteFault = cc in (h.stopped.fault same).unsteady steady;
@@ -241,7 +241,7 @@ nothing_done allows writes v out e a no_read no_write = record {
   out = Appends-nil out.taken;
   shelf = untouched v writes;
   read = λ is. let same : e ≡ cause.ReadFault = cc in absurd (no_read same);
-  read_settled = λ n m. refl;
+  read_settled = λ n m o. refl;
   write = λ is. let same : e ≡ cause.WriteFault = cc in absurd (no_write same);
   write_settled = λ n. (refl, refl);
   calm = λ is steady files. let same : e ≡ cause.WriteFault = cc in no_write same;
@@ -317,7 +317,7 @@ handed_on allows writes v w old mid new tails first last s h = by h.ends
       out = Appends-kept old.taken mid.taken new.taken s.work.out s.out h.bytes;
       shelf = s.shelf;
       read = λ is. s.read (sym same ∙ is);
-      read_settled = λ n m. s.read_settled (λ was. n (same ∙ was)) (λ was. m (same ∙ was));
+      read_settled = λ n m o. s.read_settled (λ was. n (same ∙ was)) (λ was. m (same ∙ was)) (λ was. o (same ∙ was));
       write = λ is. by_write (h.write is);
       write_settled = λ n. let kept = s.write_settled (λ is. n (same ∙ is)) in (h.settled n ∙ kept.0, kept.1);
       calm = λ is still steady. by_calm still steady (h.write is);
@@ -332,7 +332,7 @@ handed_on allows writes v w old mid new tails first last s h = by h.ends
       out = Appends-kept old.taken mid.taken new.taken s.work.out s.out h.bytes;
       shelf = s.shelf;
       read = λ fault. let no : ◌≡◌ {A = Result Done Cause} (Err cause.WriteFault) (Err cause.ReadFault) = sym is ∙ fault in absurd (cc);
-      read_settled = λ n m. absurd (m is);
+      read_settled = λ n m o. absurd (m is);
       write = λ fault. by_write (h.write fault);
       write_settled = λ n. absurd (n is);
       calm = λ fault still steady. by_calm still steady (h.write fault);

@@ -3,6 +3,7 @@ pub mod Statuses
 pub mod Prefixes
 pub mod Finishing
 pub mod Works
+pub mod Lines
 pub mod Stages
 pub mod Filing
 pub mod Loads

@@ -1,5 +1,5 @@
 -- What serving a command leaves: its work, as it came out on the shelf, on out and on notes.
-use Rattle.std.specs.Prelude.{◌≡◌, ◌≤◌, ◌⊎◌, ℕ, Bool, List, IsTrue, Result, Err}
+use Rattle.std.specs.Prelude.{◌≡◌, ◌≤◌, ◌⊎◌, ℕ, Bool, List, IsTrue, [], Result, Err}
 use Rattle.std.specs.declared.option.Option.{Option}
 use Rattle.std.specs.Io.KnownBytes.{Appends, Keeps}
 use Rattle.shelf_traits.specs.Count.{Rose}
@@ -25,7 +25,8 @@ abbrev pub stream : ℕ → Option (List ℕ) → Bool → Stream
 stream faults taken steady = record { faults = faults; taken = taken; steady = steady }
 
 -- Some work that the relation allows is what the shelf and out show of it; its tails and its end are the answer. A fault has its cause
--- in a count, a count that rose shows in the end, and over a steady shelf and a steady out no write fails.
+-- in a count, a count that rose shows in the end (a read's count may be hidden by want of memory, as taps are closed), and over a steady
+-- shelf and a steady out no write fails.
 pub record Served (allows : Work → Type 0) (writes : Option (List ℕ)) (v w : View) (old new : Stream) (tails : List ℕ) (end : Result Done Cause) : Type 0 where
   pub work : Work
   pub allowed : allows work
@@ -34,12 +35,17 @@ pub record Served (allows : Work → Type 0) (writes : Option (List ℕ)) (v w :
   pub out : Appends old.taken new.taken work.out
   pub shelf : Touches v w work.opened writes work.made
   pub read : end ≡ Err cause.ReadFault → Rose v.faults_in w.faults_in
-  pub read_settled : ¬ (end ≡ Err cause.ReadFault) → ¬ (end ≡ Err cause.WriteFault) → w.faults_in ≡ v.faults_in
+  pub read_settled : ¬ (end ≡ Err cause.ReadFault) → ¬ (end ≡ Err cause.WriteFault) → ¬ (end ≡ Err cause.Memory) → w.faults_in ≡ v.faults_in
   pub write : end ≡ Err cause.WriteFault → Rose old.faults new.faults ⊎ RoseOut v w writes
   pub write_settled : ¬ (end ≡ Err cause.WriteFault) → (new.faults ≡ old.faults) × (w.faults_out ≡ v.faults_out)
   pub calm : end ≡ Err cause.WriteFault → IsTrue old.steady → IsTrue v.steady → ⊥
   pub later : old.faults ≤ new.faults
   pub steady : IsTrue old.steady → IsTrue new.steady
+
+-- Work that taps are told of is served, before they are closed; they were told its marks, but where memory was wanting.
+pub record Tells (allows : Work → Type 0) (writes : Option (List ℕ)) (v w : View) (old new : Stream) (told : List ℕ → Type 0) (end : Result Done Cause) : Type 0 where
+  pub served : Served allows writes v w old new [] end
+  pub heard : ¬ (end ≡ Err cause.Memory) → told served.work.marks
 
 -- Out was handed on at the end of work: it takes nothing more, and the work ends as it did, or with a write fault where that failed.
 pub record Handed (old new : Stream) (before after : Result Done Cause) : Type 0 where

@@ -8,18 +8,19 @@ use Rattle.run_ends.specs.declared.cause.Cause.{Cause}
 use Rattle.run_ends.specs.declared.cause.Cause.TheVariants as cause
 use Rattle.shelf_io.specs.Touching.{Opened}
 
--- what work came to: the slots that it opened in order, what out got, what the file has that it created, the tails that notes is to
--- get past the line, and how it ended
+-- what work came to: the slots that it opened in order, what out got, what the file has that it created, the marks that taps were told,
+-- the tails that notes is to get past the line, and how it ended
 pub record Work : Type 0 where
   pub opened : List Opened
   pub out : List ℕ
   pub made : Option (List ℕ)
+  pub marks : List ℕ
   pub tails : List ℕ
   pub end : Result Done Cause
 
 -- work that ended for a cause before anything was written
 abbrev pub stopped : List Opened → Cause → Work
-stopped opened e = record { opened = opened; out = []; made = None; tails = []; end = Err e }
+stopped opened e = record { opened = opened; out = []; made = None; marks = []; tails = []; end = Err e }
 
 -- a file that is opened for reading, of which so many bytes were taken
 abbrev pub read_slot : List ℕ → ℕ → Opened
@@ -80,7 +81,7 @@ StopsWrite e = ⊥
 -- may be due that no end allows.
 abbrev pub Writes : (text_due : List ℕ → Result Done Cause → Type 0) → Work → Type 0
 Writes due work =
-    ((text : List ℕ) × ((end : Result Done Cause) × (due text end × (work ≡ record { opened = []; out = text; made = None; tails = []; end = end }))))
+    ((text : List ℕ) × ((end : Result Done Cause) × (due text end × (work ≡ record { opened = []; out = text; made = None; marks = []; tails = []; end = end }))))
     ⊎ ((text : List ℕ) × ((end : Result Done Cause) × ((k : ℕ) × ((e : Cause) × (due text end × ((k ≤ length text) × (StopsWrite e × (work ≡ record (stopped [] e) { out = take k text }))))))))
     ⊎ (work ≡ stopped [] cause.Memory)
 

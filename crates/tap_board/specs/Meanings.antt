@@ -49,3 +49,7 @@ marked_by ms t = record { marks = t.marks ++ ms; tail = t.tail; stops = t.stops 
 abbrev pub stays : List ℕ → Meaning → Bool
 stays [] t = true
 stays (m ∷ ms) t = goes_on (marked m t) && stays ms (marked m t)
+
+-- the texts of those that are live once all were told these marks
+abbrev pub tails_after : List Meaning → List ℕ → List ℕ
+tails_after taps marks = tails_of (told_all marks taps)
