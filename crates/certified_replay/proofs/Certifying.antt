@@ -1,7 +1,8 @@
 -- A replay with a certificate, served call by call.
 use Rattle.std.proofs.Common.{◌≡◌, ◌≢◌, ℕ, suc, ◌+◌, ◌<◌, ◌≤◌, ◌^◌, ◌⊎◌, inl, inr, List, [], ◌∷◌, ◌++◌, length, drop, slice_get, Option, None, Some, unwrap_or, Result, Ok, Err, refl, sym, ◌∙◌, ap, subst, arith, length-append}
 use Rattle.std.proofs.Math.Seq.{get_or-append_seam}
-use Rattle.std.proofs.lemmas.Option.{slice_get-get_or}
+use Rattle.std.proofs.lemmas.Option.{slice_get-get_or, slice_get_within, get_or_from_slice_get}
+use Rattle.std.proofs.lemmas.List.{get_or_append_left}
 use Rattle.std.specs.Prelude.{IsTrue, IsSome}
 use Rattle.std.specs.Io.KnownBytes.{Appends}
 use Rattle.std.proofs.KnownBytes.{Appends-nil}
@@ -12,6 +13,7 @@ use Rattle.shelf_traits.specs.Shelf.{View, Position, ReadsOn, WritesOn, IsReader
 use Rattle.shelf_io.specs.Touching.{Opened, Touches, FailedWrite}
 use Rattle.shelf_io.proofs.Touching.{touches_after, touches_lifted, touches_read}
 use Rattle.wheel_types.specs.declared.parts.WheelParts.{WheelParts}
+use Rattle.wheel_types.specs.declared.instant.Instant.{Instant}
 use Rattle.capture_core.specs.declared.capture.Capture.{Capture}
 use Rattle.capture_core.specs.declared.capture.End.{End}
 use Rattle.capture_core.specs.declared.capture.End.TheVariants.{Clean, Csv, Vcd}
@@ -21,26 +23,21 @@ use Rattle.run_ends.specs.declared.cause.Cause.{Cause}
 use Rattle.run_ends.specs.declared.cause.Cause.TheVariants as cause
 use Rattle.run_ends.specs.declared.cause.Limit.TheVariants as limit
 use Rattle.run_ends.specs.Works.{Work, Told, StopsOpen, StopsRead, StopsWrite, stopped, read_slot, after}
-use Rattle.run_ends.specs.Stages.{Fellows, Opens, Creates, Takes, WritesBoth, Stopped, write_slot, lines_text, beside_text}
+use Rattle.run_ends.specs.Stages.{Fellows, Past, Opens, Closes, Creates, Takes, WritesBoth, Stopped, write_slot, lines_text, beside_text, marks_beside}
 use Rattle.run_ends.specs.Filing.{StoppedOver, HasCreated, NotCreated, Grows}
-use Rattle.run_ends.specs.Serving.{Stream, Served}
+use Rattle.run_ends.specs.Serving.{Stream, Served, Tells}
+use Rattle.run_ends.proofs.Tapping.{stops_write}
 use Rattle.run_ends.proofs.CreatedFiles.{touches_grown}
 use Rattle.run_files.specs.Causes.{FileGives, ended_by}
 use Rattle.run_files.specs.Files.{Holds, IsTooLong}
 use Rattle.named_captures.specs.Captures.{HasNamedCapture, IsCapture}
+use Rattle.certified_replay.proofs.Taking.{IsLeft, left_whole, stops_reading, accepted, takes_before, opens_before}
 use Rattle.certified_replay.specs.Openings.{HasOpened, NotOpened, StopsTaking, IsTaken}
-use Rattle.certified_replay.specs.Certified.{AreCertified, ReadsBack, WritesCertified, IsCertifiedOver}
+use Rattle.certified_replay.specs.Certified.{AreCertified, ReadsBack, WritesCertified, IsCertifiedPast, IsCertifiedOver}
+use Rattle.tap_board.specs.Meanings.{Meaning, told_all}
 use Rattle.certified_replay.specs.Puts.{StoppedBoth, GetsTexts, GetsBoth, GetsBothFront}
 
 -- ---- causes
-
-not_opening : (v : View) (name : List ℕ) (e : Cause) → StopsOpen v name e → e ≡ cause.WriteFault → ⊥
-not_opening v name cause.WriteFault s is = s
-not_opening v name cause.ReadFault s is = cc
-not_opening v name cause.Memory s is = cc
-not_opening v name cause.Usage s is = s
-not_opening v name (cause.Refused r) s is = s
-not_opening v name (cause.Limit l) s is = s
 
 not_taking : (v : View) (slot : ℕ) (e : Cause) → StopsTaking v slot e → e ≡ cause.WriteFault → ⊥
 not_taking v slot cause.WriteFault s is = s
@@ -68,39 +65,25 @@ failed_before v u w same still f = record { rose = subst (λ n. Rose n w.faults_
 
 -- ---- the capture is opened, and the certificate's file created
 
-pub not_opened : (v x : View) (w : WheelParts) (capture cert : List ℕ) (o : Options) (out : Stream) (e : Cause) → NotOpened v x capture e → Served (IsCertifiedOver v w capture cert o) (Some cert) v x out out [] (Err e)
-not_opened v x w capture cert o out e n = record {
-  work = stopped [] e;
-  allowed = record { went = inl (e, (n.stops, refl)) };
-  ends = refl;
-  closes = refl;
-  out = Appends-nil out.taken;
-  shelf = touches_lifted v x [] (Some cert) n.touches;
-  read = λ is. let same : e ≡ cause.ReadFault = cc in n.reads.rose same;
-  read_settled = λ a b. n.reads.stays (λ is. a (ap Err is));
-  write = λ is. let same : e ≡ cause.WriteFault = cc in absurd (not_opening v capture e n.stops same);
-  write_settled = λ a. (refl, n.touches.counts_out);
-  calm = λ is still steady. let same : e ≡ cause.WriteFault = cc in not_opening v capture e n.stops same;
-  later = omega arith;
-  steady = λ h. h;
-}
-
-pub not_created : (v u x : View) (w : WheelParts) (capture cert : List ℕ) (o : Options) (out : Stream) (slot : ℕ) (e : Cause) → HasOpened v u capture slot → NotCreated u x cert e
-    → Served (IsCertifiedOver v w capture cert o) (Some cert) v x out out [] (Err e)
-not_created v u x w capture cert o out slot e h n = record {
-  work = after (read_slot capture 0) (stopped [] e);
-  allowed = record { went = inr (0, (stopped [] e, (record { went = inl (e, (n.stopped.kinds, refl)) }, refl))) };
-  ends = refl;
-  closes = refl;
-  out = Appends-nil out.taken;
-  shelf = touches_after v u x (read_slot capture 0) [] (Some cert) None h.touches n.touches;
-  read = λ is. let same : e ≡ cause.ReadFault = cc in absurd (no_read e n.stopped.kinds same);
-  read_settled = λ a b. n.stopped.reads ∙ h.reads;
-  write = λ is. let same : e ≡ cause.WriteFault = cc in inr (failed_before v u x h.touches.counts_out h.touches.steady (n.stopped.fault same));
-  write_settled = λ a. (refl, n.stopped.settled (λ is. a (ap Err is)) ∙ h.touches.counts_out);
-  calm = λ is still steady. let same : e ≡ cause.WriteFault = cc in (n.stopped.fault same).unsteady (h.touches.steady steady);
-  later = omega arith;
-  steady = λ k. k;
+pub not_created : (v u x : View) (w : WheelParts) (capture cert : List ℕ) (o : Options) (out : Stream) (told : List ℕ → Type 0) (slot : ℕ) (e : Cause) → HasOpened v u capture slot → NotCreated u x cert e
+    → told [] → Tells (Past capture (IsCertifiedPast v w capture cert o)) (Some cert) v x out out told (Err e)
+not_created v u x w capture cert o out told slot e h n t = record {
+  served = record {
+    work = after (read_slot capture 0) (stopped [] e);
+    allowed = (0, (stopped [] e, (record { went = inl (e, (n.stopped.kinds, refl)) }, refl)));
+    ends = refl;
+    closes = refl;
+    out = Appends-nil out.taken;
+    shelf = touches_after v u x (read_slot capture 0) [] (Some cert) None h.touches n.touches;
+    read = λ is. let same : e ≡ cause.ReadFault = cc in absurd (no_read e n.stopped.kinds same);
+    read_settled = λ a b m. n.stopped.reads ∙ h.reads;
+    write = λ is. let same : e ≡ cause.WriteFault = cc in inr (failed_before v u x h.touches.counts_out h.touches.steady (n.stopped.fault same));
+    write_settled = λ a. (refl, n.stopped.settled (λ is. a (ap Err is)) ∙ h.touches.counts_out);
+    calm = λ is still steady. let same : e ≡ cause.WriteFault = cc in (n.stopped.fault same).unsteady (h.touches.steady steady);
+    later = omega arith;
+    steady = λ k. k;
+  };
+  heard = λ n. t;
 }
 
 -- both are open, nothing was taken or put yet, and no count rose
@@ -131,6 +114,13 @@ reader_at ways rest slot is =
     let within : length ways < length (ways ++ way.Reads ∷ rest) = omega (arith, length-append ways (way.Reads ∷ rest)) in
     ap (slice_get (ways ++ way.Reads ∷ rest)) is ∙ slice_get-get_or (ways ++ way.Reads ∷ rest) (length ways) way.Reads within ∙ ap Some (get_or-append_seam ways way.Reads rest way.Reads)
 
+-- a slot stays what it is as more are opened
+pub slot_stays : (ways more : List Way) (slot : ℕ) (x : Way) → slice_get ways slot ≡ Some x → slice_get (ways ++ more) slot ≡ Some x
+slot_stays ways more slot x is =
+    let within : slot < length ways = slice_get_within ways slot x is in
+    let among : slot < length (ways ++ more) = omega (arith, length-append ways more) in
+    slice_get-get_or (ways ++ more) slot x among ∙ ap Some (get_or_append_left ways more x slot within ∙ get_or_from_slice_get ways slot x x is)
+
 -- the capture's slot reads
 pub reader_begun : (v x : View) (capture cert : List ℕ) (source slot : ℕ) → Begun v x capture cert source slot → IsReader x source
 reader_begun v x capture cert source slot b = subst (λ (ways : List Way). slice_get ways source ≡ Some way.Reads) (sym b.touches.ways) (reader_at v.ways (way.Writes ∷ []) source b.first)
@@ -153,61 +143,35 @@ touches_taken v x y capture cert source slot t =
     subst (λ (s : ℕ). y.place s ≡ (let p : Position = record { name = capture; at = (y.place source).at } in p)) t.begun.first
     (ap (λ (n : List ℕ). let p : Position = record { name = n; at = (y.place source).at } in p) (t.same told ∙ name)))
 
--- what is left of the capture's slot is the whole file
-left_begun : (v x : View) (capture cert : List ℕ) (source slot : ℕ) → Begun v x capture cert source slot → capture ≢ cert → IsTrue v.tells → left_at x source ≡ unwrap_or (v.file capture) []
-left_begun v x capture cert source slot b apart told =
-    let at : x.place (length v.ways) ≡ (let p : Position = record { name = capture; at = 0 } in p) = (b.touches.stand told).0 in
-    let place : x.place source ≡ (let p : Position = record { name = capture; at = 0 } in p) = subst (λ (s : ℕ). x.place s ≡ (let p : Position = record { name = capture; at = 0 } in p)) (sym b.first) at in
-    ap (λ (p : Position). left_of p) place ∙ ap (λ (f : Option (List ℕ)). unwrap_or f []) ((b.touches.files told).1 capture apart)
-  where
-    left_of : Position → List ℕ
-    left_of p = drop p.at (unwrap_or (x.file p.name) [])
+-- all of the capture's file is left of its slot
+pub begun_left : (v x : View) (capture cert : List ℕ) (source slot : ℕ) → Begun v x capture cert source slot → capture ≢ cert → IsLeft v x capture source
+begun_left v x capture cert source slot b apart = record {
+  tells = b.touches.tells;
+  steady = b.touches.steady;
+  there = b.there;
+  whole = λ told. left_whole v x capture source (subst (λ (s : ℕ). x.place s ≡ (let p : Position = record { name = capture; at = 0 } in p)) (sym b.first) (b.touches.stand told).0) ((b.touches.files told).1 capture apart);
+}
 
-too_long_by : (file : List ℕ → Option (List ℕ)) (name : List ℕ) (f : Option (List ℕ)) → file name ≡ f → IsSome f → 2 ^ 28 < length (unwrap_or f []) → IsTooLong file name
-too_long_by file name None is some long = absurd (cc)
-too_long_by file name (Some bytes) is some long = (bytes, (is, long))
-
-holds_by : (file : List ℕ → Option (List ℕ)) (name : List ℕ) (f : Option (List ℕ)) → file name ≡ f → IsSome f → length (unwrap_or f []) ≤ 2 ^ 28 → Holds file name (unwrap_or f [])
-holds_by file name None is some short = absurd (cc)
-holds_by file name (Some bytes) is some short = record { there = is; short = short }
-
-stops_reading : (v x : View) (capture cert : List ℕ) (source slot : ℕ) (e : Cause) → Begun v x capture cert source slot → capture ≢ cert → StopsTaking x source e → StopsRead v (FileGives v.file capture) e
-stops_reading v x capture cert source slot cause.ReadFault b apart s = λ steady. s (b.touches.steady steady)
-stops_reading v x capture cert source slot cause.Memory b apart s = tt
-stops_reading v x capture cert source slot (cause.Limit limit.File) b apart s = λ told.
-    too_long_by v.file capture (v.file capture) refl (b.there told) (subst (λ (l : List ℕ). 2 ^ 28 < length l) (left_begun v x capture cert source slot b apart told) (s (b.touches.tells ∙ told)))
-stops_reading v x capture cert source slot (cause.Limit limit.Places) b apart s = absurd s
-stops_reading v x capture cert source slot (cause.Limit (limit.States n)) b apart s = absurd s
-stops_reading v x capture cert source slot (cause.Refused r) b apart s = absurd s
-stops_reading v x capture cert source slot cause.Usage b apart s = absurd s
-stops_reading v x capture cert source slot cause.WriteFault b apart s = absurd s
-
-accepted : (v x : View) (w : WheelParts) (capture cert : List ℕ) (o : Options) (c : Capture) (source slot : ℕ) → Begun v x capture cert source slot → capture ≢ cert → IsTaken x source w o c → Told v (HasNamedCapture v.file capture w o c)
-accepted v x w capture cert o c source slot b apart k = λ told.
-    let left = left_begun v x capture cert source slot b apart told in
-    let told_too = b.touches.tells ∙ told in
-    record {
-      bytes = unwrap_or (v.file capture) [];
-      holds = holds_by v.file capture (v.file capture) refl (b.there told) (subst (λ (l : List ℕ). length l ≤ 2 ^ 28) left (k.short told_too));
-      read = subst (λ (l : List ℕ). IsCapture w o l c) left (k.read told_too);
-    }
-
-pub not_taken : (v x y : View) (w : WheelParts) (capture cert : List ℕ) (o : Options) (out : Stream) (source slot : ℕ) (e : Cause) → Taken v x y capture cert source slot → capture ≢ cert
-    → RoseWhere (e ≡ cause.ReadFault) x.faults_in y.faults_in → StopsTaking x source e → Served (IsCertifiedOver v w capture cert o) (Some cert) v y out out [] (Err e)
-not_taken v x y w capture cert o out source slot e t apart r s = record {
-  work = after (read_slot capture (y.place source).at) (record (after (write_slot cert) (stopped [] e)) { made = Some [] });
-  allowed = record { went = inr ((y.place source).at, (record (after (write_slot cert) (stopped [] e)) { made = Some [] }, (record { went = inr (stopped [] e, (record { went = inl (e, (stops_reading v x capture cert source slot e t.begun apart s, refl)) }, refl)) }, refl))) };
-  ends = refl;
-  closes = refl;
-  out = Appends-nil out.taken;
-  shelf = touches_taken v x y capture cert source slot t;
-  read = λ is. let same : e ≡ cause.ReadFault = cc in subst (λ n. Rose n y.faults_in) t.begun.reads (r.rose same);
-  read_settled = λ a b. r.stays (λ is. a (ap Err is)) ∙ t.begun.reads;
-  write = λ is. let same : e ≡ cause.WriteFault = cc in absurd (not_taking x source e s same);
-  write_settled = λ a. (refl, t.keeps.out ∙ t.begun.writes);
-  calm = λ is still steady. let same : e ≡ cause.WriteFault = cc in not_taking x source e s same;
-  later = omega arith;
-  steady = λ h. h;
+pub not_taken : (v x y : View) (w : WheelParts) (capture cert : List ℕ) (o : Options) (out : Stream) (told : List ℕ → Type 0) (source slot : ℕ) (e : Cause) → Taken v x y capture cert source slot → capture ≢ cert
+    → RoseWhere (e ≡ cause.ReadFault) x.faults_in y.faults_in → StopsTaking x source e → told []
+    → Tells (Past capture (IsCertifiedPast v w capture cert o)) (Some cert) v y out out told (Err e)
+not_taken v x y w capture cert o out told source slot e b apart r s t = record {
+  served = record {
+    work = after (read_slot capture (y.place source).at) (record (after (write_slot cert) (stopped [] e)) { made = Some [] });
+    allowed = ((y.place source).at, (record (after (write_slot cert) (stopped [] e)) { made = Some [] }, (record { went = inr (stopped [] e, (record { went = inl (e, (stops_reading v x capture source e (begun_left v x capture cert source slot b.begun apart) s, refl)) }, refl)) }, refl)));
+    ends = refl;
+    closes = refl;
+    out = Appends-nil out.taken;
+    shelf = touches_taken v x y capture cert source slot b;
+    read = λ is. let same : e ≡ cause.ReadFault = cc in subst (λ n. Rose n y.faults_in) b.begun.reads (r.rose same);
+    read_settled = λ a d m. r.stays (λ is. a (ap Err is)) ∙ b.begun.reads;
+    write = λ is. let same : e ≡ cause.WriteFault = cc in absurd (not_taking x source e s same);
+    write_settled = λ a. (refl, b.keeps.out ∙ b.begun.writes);
+    calm = λ is still steady. let same : e ≡ cause.WriteFault = cc in not_taking x source e s same;
+    later = omega arith;
+    steady = λ h. h;
+  };
+  heard = λ n. t;
 }
 
 -- ---- the lines are put
@@ -234,37 +198,48 @@ put_into v x y z capture cert piece source slot t keeps more =
 abbrev pub AreDue : WheelParts → Capture → List Fellows → Result Done Cause → Type 0
 AreDue w c all end = AreCertified w c.instants all × (end ≡ ended_by c.end)
 
-pub cut_short : (v x y z : View) (w : WheelParts) (capture cert : List ℕ) (o : Options) (c : Capture) (old new : Stream) (source slot : ℕ) (e : Cause) → Taken v x y capture cert source slot → capture ≢ cert
-    → IsTaken x source w o c → y.faults_in ≡ x.faults_in → WritesOn y z slot → GetsBothFront w c.instants y z slot old.taken new.taken → StoppedBoth y z old new e → old.faults ≤ new.faults → (IsTrue old.steady → IsTrue new.steady)
-    → Served (IsCertifiedOver v w capture cert o) (Some cert) v z old new [] (Err e)
-cut_short v x y z w capture cert o c old new source slot e t apart k same keeps f s later still = record {
-  work = after (read_slot capture (y.place source).at) (record (after (write_slot cert) rest) { made = Some (beside_text f.before ++ f.beside) });
-  allowed = record { went = inr ((y.place source).at, (record (after (write_slot cert) rest) { made = Some (beside_text f.before ++ f.beside) }, (record { went = inr (rest, (takes, refl)) }, refl))) };
-  ends = refl;
-  closes = refl;
-  out = f.texts.out;
-  shelf = put_into v x y z capture cert (beside_text f.before ++ f.beside) source slot t keeps f.texts.file;
-  read = λ is. let fault : e ≡ cause.ReadFault = cc in absurd (no_read e s.kinds fault);
-  read_settled = λ a b. keeps.reads ∙ same ∙ t.begun.reads;
-  write = λ is. let fault : e ≡ cause.WriteFault = cc in by_fault (s.fault fault);
-  write_settled = λ a. let kept = s.settled (λ is. a (ap Err is)) in (kept.0, kept.1 ∙ t.keeps.out ∙ t.begun.writes);
-  calm = λ is steady files. let fault : e ≡ cause.WriteFault = cc in s.calm fault steady (t.keeps.steady (t.begun.touches.steady files));
-  later = later;
-  steady = still;
+-- what was put of these instants over this wheel, where others are the same
+pub front_as : (e : Cause) (x w : WheelParts) (is js : List Instant) (y z : View) (slot : ℕ) (old new : Option (List ℕ)) (taps live : List Meaning) → x ≡ w → is ≡ js → GetsBothFront e x is y z slot old new taps live
+    → GetsBothFront e w js y z slot old new taps live
+front_as e x w is js y z slot old new taps live same alike g = subst (λ (u : WheelParts). GetsBothFront e u js y z slot old new taps live) same (subst (λ (l : List Instant). GetsBothFront e x l y z slot old new taps live) alike g)
+
+pub both_as : (x w : WheelParts) (is js : List Instant) (y z : View) (slot : ℕ) (old new : Option (List ℕ)) (taps live : List Meaning) → x ≡ w → is ≡ js → GetsBoth x is y z slot old new taps live → GetsBoth w js y z slot old new taps live
+both_as x w is js y z slot old new taps live same alike g = subst (λ (u : WheelParts). GetsBoth u js y z slot old new taps live) same (subst (λ (l : List Instant). GetsBoth x l y z slot old new taps live) alike g)
+
+pub cut_short : (v x y z : View) (w : WheelParts) (capture cert : List ℕ) (o : Options) (c : Capture) (old new : Stream) (taps live : List Meaning) (source slot : ℕ) (e : Cause) → Taken v x y capture cert source slot → capture ≢ cert
+    → IsTaken x source w o c → y.faults_in ≡ x.faults_in → WritesOn y z slot → GetsBothFront e w c.instants y z slot old.taken new.taken taps live → StoppedBoth y z old new e → old.faults ≤ new.faults → (IsTrue old.steady → IsTrue new.steady)
+    → Tells (Past capture (IsCertifiedPast v w capture cert o)) (Some cert) v z old new (λ marks. live ≡ told_all marks taps) (Err e)
+cut_short v x y z w capture cert o c old new taps live source slot e t apart k same keeps f s later still = record {
+  served = record {
+    work = after (read_slot capture (y.place source).at) (record (after (write_slot cert) rest) { made = Some (beside_text f.before ++ f.beside) });
+    allowed = ((y.place source).at, (record (after (write_slot cert) rest) { made = Some (beside_text f.before ++ f.beside) }, (record { went = inr (rest, (takes, refl)) }, refl)));
+    ends = refl;
+    closes = refl;
+    out = f.texts.out;
+    shelf = put_into v x y z capture cert (beside_text f.before ++ f.beside) source slot t keeps f.texts.file;
+    read = λ is. let fault : e ≡ cause.ReadFault = cc in absurd (no_read e s.kinds fault);
+    read_settled = λ a b m. keeps.reads ∙ same ∙ t.begun.reads;
+    write = λ is. let fault : e ≡ cause.WriteFault = cc in by_fault (s.fault fault);
+    write_settled = λ a. let kept = s.settled (λ is. a (ap Err is)) in (kept.0, kept.1 ∙ t.keeps.out ∙ t.begun.writes);
+    calm = λ is steady files. let fault : e ≡ cause.WriteFault = cc in s.calm fault steady (t.keeps.steady (t.begun.touches.steady files));
+    later = later;
+    steady = still;
+  };
+  heard = λ n. f.heard (stops_write e s.kinds n);
 }
   where
     rest : Work
-    rest = record (stopped [] e) { out = lines_text f.before ++ f.line; made = Some (beside_text f.before ++ f.beside) }
+    rest = record (stopped [] e) { out = lines_text f.before ++ f.line; made = Some (beside_text f.before ++ f.beside); marks = marks_beside f.before }
 
     no_end : (d : Done) → ◌≡◌ {A = Result Done Cause} (Err e) (Ok d) → ⊥
     no_end d is = cc
 
-    takes : Takes v (FileGives v.file capture) (HasNamedCapture v.file capture w o) (λ c. WritesCertified w c) (record (stopped [] e) { out = lines_text f.before ++ f.line; made = Some (beside_text f.before ++ f.beside) })
+    takes : Takes v (FileGives v.file capture) (HasNamedCapture v.file capture w o) (λ c. WritesCertified w c) (record (stopped [] e) { out = lines_text f.before ++ f.line; made = Some (beside_text f.before ++ f.beside); marks = marks_beside f.before })
     takes = record {
       went = inr (
         c,
         (
-          accepted v x w capture cert o c source slot t.begun apart k,
+          accepted v x w capture o c source (begun_left v x capture cert source slot t.begun apart) k,
           (
             record {
               went = inr (record {
@@ -273,11 +248,13 @@ cut_short v x y z w capture cert o c old new source slot e t apart k same keeps 
                 rest = f.rest;
                 end = ended_by c.end;
                 is_due = (f.certified, refl);
+                why = e;
+                stops = s.kinds;
                 line = f.line;
                 beside = f.beside;
                 are_cut = f.are_cut;
-                cause = e;
-                stops = s.kinds;
+                marks = marks_beside f.before;
+                told = λ is. refl;
                 came = refl;
               });
             },
@@ -291,34 +268,37 @@ cut_short v x y z w capture cert o c old new source slot e t apart k same keeps 
     by_fault (inl rose) = inl rose
     by_fault (inr failed) = inr (failed_before v y z (t.keeps.out ∙ t.begun.writes) (λ steady. t.keeps.steady (t.begun.touches.steady steady)) failed)
 
-pub whole : (v x y z : View) (w : WheelParts) (capture cert : List ℕ) (o : Options) (c : Capture) (old new : Stream) (source slot : ℕ) → Taken v x y capture cert source slot → capture ≢ cert
-    → IsTaken x source w o c → y.faults_in ≡ x.faults_in → WritesOn y z slot → GetsBoth w c.instants y z slot old.taken new.taken → (new.faults ≡ old.faults) × (z.faults_out ≡ y.faults_out) → (IsTrue old.steady → IsTrue new.steady)
-    → Served (IsCertifiedOver v w capture cert o) (Some cert) v z old new [] (ended_by c.end)
-whole v x y z w capture cert o c old new source slot t apart k same keeps g quiet still = record {
-  work = after (read_slot capture (y.place source).at) (record (after (write_slot cert) rest) { made = Some (beside_text g.all) });
-  allowed = record { went = inr ((y.place source).at, (record (after (write_slot cert) rest) { made = Some (beside_text g.all) }, (record { went = inr (rest, (takes, refl)) }, refl))) };
-  ends = refl;
-  closes = refl;
-  out = g.texts.out;
-  shelf = put_into v x y z capture cert (beside_text g.all) source slot t keeps g.texts.file;
-  read = λ is. absurd ((no_fault c.end).0 is);
-  read_settled = λ a b. keeps.reads ∙ same ∙ t.begun.reads;
-  write = λ is. absurd ((no_fault c.end).1 is);
-  write_settled = λ a. (quiet.0, quiet.1 ∙ t.keeps.out ∙ t.begun.writes);
-  calm = λ is steady files. (no_fault c.end).1 is;
-  later = omega (arith, quiet.0);
-  steady = still;
+pub whole : (v x y z : View) (w : WheelParts) (capture cert : List ℕ) (o : Options) (c : Capture) (old new : Stream) (taps live : List Meaning) (source slot : ℕ) → Taken v x y capture cert source slot → capture ≢ cert
+    → IsTaken x source w o c → y.faults_in ≡ x.faults_in → WritesOn y z slot → GetsBoth w c.instants y z slot old.taken new.taken taps live → (new.faults ≡ old.faults) × (z.faults_out ≡ y.faults_out) → (IsTrue old.steady → IsTrue new.steady)
+    → Tells (Past capture (IsCertifiedPast v w capture cert o)) (Some cert) v z old new (λ marks. live ≡ told_all marks taps) (ended_by c.end)
+whole v x y z w capture cert o c old new taps live source slot t apart k same keeps g quiet still = record {
+  served = record {
+    work = after (read_slot capture (y.place source).at) (record (after (write_slot cert) rest) { made = Some (beside_text g.all) });
+    allowed = ((y.place source).at, (record (after (write_slot cert) rest) { made = Some (beside_text g.all) }, (record { went = inr (rest, (takes, refl)) }, refl)));
+    ends = refl;
+    closes = refl;
+    out = g.texts.out;
+    shelf = put_into v x y z capture cert (beside_text g.all) source slot t keeps g.texts.file;
+    read = λ is. absurd ((no_fault c.end).0 is);
+    read_settled = λ a b m. keeps.reads ∙ same ∙ t.begun.reads;
+    write = λ is. absurd ((no_fault c.end).1 is);
+    write_settled = λ a. (quiet.0, quiet.1 ∙ t.keeps.out ∙ t.begun.writes);
+    calm = λ is steady files. (no_fault c.end).1 is;
+    later = omega (arith, quiet.0);
+    steady = still;
+  };
+  heard = λ n. g.heard;
 }
   where
     rest : Work
-    rest = record { opened = []; out = lines_text g.all; made = Some (beside_text g.all); tails = []; end = ended_by c.end }
+    rest = record { opened = []; out = lines_text g.all; made = Some (beside_text g.all); marks = marks_beside g.all; tails = []; end = ended_by c.end }
 
-    takes : Takes v (FileGives v.file capture) (HasNamedCapture v.file capture w o) (λ c. WritesCertified w c) (record { opened = []; out = lines_text g.all; made = Some (beside_text g.all); tails = []; end = ended_by c.end })
+    takes : Takes v (FileGives v.file capture) (HasNamedCapture v.file capture w o) (λ c. WritesCertified w c) (record { opened = []; out = lines_text g.all; made = Some (beside_text g.all); marks = marks_beside g.all; tails = []; end = ended_by c.end })
     takes = record {
       went = inr (
         c,
         (
-          accepted v x w capture cert o c source slot t.begun apart k,
+          accepted v x w capture o c source (begun_left v x capture cert source slot t.begun apart) k,
           (
             record { went = inl (g.all, (ended_by c.end, ((g.certified, refl), refl))) },
             λ d is. (beside_text g.all, (refl, g.believed)),
@@ -327,58 +307,12 @@ whole v x y z w capture cert o c old new source slot t apart k same keeps g quie
       );
     }
 
--- ---- past the model
-
-open_before : (t v : View) (opened : List Opened) (name : List ℕ) (e : Cause) → Touches t v opened None None → StopsOpen v name e → StopsOpen t name e
-open_before t v opened name cause.ReadFault p h = λ told steady. subst (λ file. file name ≡ None) (p.files told) (h (p.tells ∙ told) (p.steady steady))
-open_before t v opened name cause.Memory p h = h
-open_before t v opened name cause.Usage p h = h
-open_before t v opened name (cause.Refused r) p h = h
-open_before t v opened name (cause.Limit l) p h = h
-open_before t v opened name cause.WriteFault p h = h
-
-read_before : (t v : View) (opened : List Opened) (name : List ℕ) (e : Cause) → Touches t v opened None None → StopsRead v (FileGives v.file name) e → StopsRead t (FileGives t.file name) e
-read_before t v opened name cause.ReadFault p h = λ steady. h (p.steady steady)
-read_before t v opened name cause.Memory p h = h
-read_before t v opened name cause.Usage p h = h
-read_before t v opened name (cause.Refused r) p h = λ told. absurd (h (p.tells ∙ told))
-read_before t v opened name (cause.Limit l) p h = λ told. subst (λ file. FileGives file name (cause.Limit l)) (p.files told) (h (p.tells ∙ told))
-read_before t v opened name cause.WriteFault p h = h
-
 -- what the rest says of files is so of those that were told before
-pub over_before : (t v : View) (opened : List Opened) (w : WheelParts) (capture cert : List ℕ) (o : Options) (work : Work) → Touches t v opened None None → IsCertifiedOver v w capture cert o work → IsCertifiedOver t w capture cert o work
-over_before t v opened w capture cert o work p r = record { went = by_open r.went }
+pub over_before : (t v : View) (opened : List Opened) (tails : List ℕ → List ℕ) (w : WheelParts) (capture cert : List ℕ) (o : Options) (work : Work) → Touches t v opened None None → IsCertifiedOver v tails w capture cert o work
+    → IsCertifiedOver t tails w capture cert o work
+over_before t v opened tails w capture cert o work p r = opens_before t v opened capture tails (IsCertifiedPast v w capture cert o) (IsCertifiedPast t w capture cert o) work p (λ rest n. record { went = by rest n.went }) r
   where
-    by_take : (rest : Work) → ((e : Cause) × (StopsRead v (FileGives v.file capture) e × (rest ≡ stopped [] e))) ⊎ ((c : Capture) × (Told v (HasNamedCapture v.file capture w o c) × WritesCertified w c rest))
-        → ((e : Cause) × (StopsRead t (FileGives t.file capture) e × (rest ≡ stopped [] e))) ⊎ ((c : Capture) × (Told t (HasNamedCapture t.file capture w o c) × WritesCertified w c rest))
-    by_take rest (inl (e, (s, is))) = inl (e, (read_before t v opened capture e p s, is))
-    by_take rest (inr (c, (a, n))) = inr (c, (λ told. subst (λ file. HasNamedCapture file capture w o c) (p.files told) (a (p.tells ∙ told)), n))
-
-    by_create : (rest : Work) → ((e : Cause) × (StopsWrite e × (rest ≡ stopped [] e))) ⊎ ((more : Work) × (Takes v (FileGives v.file capture) (HasNamedCapture v.file capture w o) (λ c. WritesCertified w c) more × (rest ≡ record (after (write_slot cert) more) { made = Some (unwrap_or more.made []) })))
+    by : (rest : Work) → ((e : Cause) × (StopsWrite e × (rest ≡ stopped [] e))) ⊎ ((more : Work) × (Takes v (FileGives v.file capture) (HasNamedCapture v.file capture w o) (λ c. WritesCertified w c) more × (rest ≡ record (after (write_slot cert) more) { made = Some (unwrap_or more.made []) })))
         → ((e : Cause) × (StopsWrite e × (rest ≡ stopped [] e))) ⊎ ((more : Work) × (Takes t (FileGives t.file capture) (HasNamedCapture t.file capture w o) (λ c. WritesCertified w c) more × (rest ≡ record (after (write_slot cert) more) { made = Some (unwrap_or more.made []) })))
-    by_create rest (inl stops) = inl stops
-    by_create rest (inr (more, (n, is))) = inr (more, (record { went = by_take more n.went }, is))
-
-    by_open : ((e : Cause) × (StopsOpen v capture e × (work ≡ stopped [] e))) ⊎ ((taken : ℕ) × ((rest : Work) × (Creates cert (Takes v (FileGives v.file capture) (HasNamedCapture v.file capture w o) (λ c. WritesCertified w c)) rest × (work ≡ after (read_slot capture taken) rest))))
-        → ((e : Cause) × (StopsOpen t capture e × (work ≡ stopped [] e))) ⊎ ((taken : ℕ) × ((rest : Work) × (Creates cert (Takes t (FileGives t.file capture) (HasNamedCapture t.file capture w o) (λ c. WritesCertified w c)) rest × (work ≡ after (read_slot capture taken) rest))))
-    by_open (inl (e, (s, is))) = inl (e, (open_before t v opened capture e p s, is))
-    by_open (inr (taken, (rest, (n, is)))) = inr (taken, (rest, (record { went = by_create rest n.went }, is)))
-
--- what one relation allows, another allows
-pub served_as : (allows more : Work → Type 0) (writes : Option (List ℕ)) (v w : View) (old new : Stream) (tails : List ℕ) (end : Result Done Cause) → ((work : Work) → allows work → more work)
-    → Served allows writes v w old new tails end → Served more writes v w old new tails end
-served_as allows more writes v w old new tails end f s = record {
-  work = s.work;
-  allowed = f s.work s.allowed;
-  ends = s.ends;
-  closes = s.closes;
-  out = s.out;
-  shelf = s.shelf;
-  read = s.read;
-  read_settled = s.read_settled;
-  write = s.write;
-  write_settled = s.write_settled;
-  calm = s.calm;
-  later = s.later;
-  steady = s.steady;
-}
+    by rest (inl stops) = inl stops
+    by rest (inr (more, (n, is))) = inr (more, (takes_before t v opened w capture o (λ c. WritesCertified w c) more p n, is))

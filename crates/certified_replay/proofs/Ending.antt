@@ -11,14 +11,14 @@ use Rattle.run_ends.specs.declared.cause.Cause.{Cause}
 use Rattle.run_ends.specs.declared.cause.Cause.TheVariants as cause
 use Rattle.run_ends.specs.declared.cause.Done.{Done}
 use Rattle.run_ends.specs.Works.{Work, Told, StopsOpen, StopsRead, StopsWrite, stopped, read_slot, after}
-use Rattle.run_ends.specs.Stages.{Fellows, Creates, Takes, Stopped, write_slot, lines_text, beside_text}
-use Rattle.run_ends.proofs.Completing.{reads_end, reads_ready, open_not_usage, read_not_usage, write_not_usage}
+use Rattle.run_ends.specs.Stages.{Fellows, Closes, Creates, Takes, Stopped, write_slot, lines_text, beside_text, marks_beside}
+use Rattle.run_ends.proofs.Completing.{reads_end, opens_end, closes_end, reads_ready, open_not_usage, read_not_usage, write_not_usage}
 use Rattle.run_files.specs.Causes.{FileGives, ModelGives, ended_by}
 use Rattle.run_files.specs.Files.{HasPlacedWheel}
 use Rattle.run_files.proofs.Ready.{model_gives_none, file_gives_none, file_has_one_wheel}
 use Rattle.named_captures.specs.Captures.{HasNamedCapture}
 use Rattle.named_captures.proofs.FileNames.{file_has_one_capture}
-use Rattle.certified_replay.specs.Certified.{WritesCertified, IsCertifiedOver, IsCertified}
+use Rattle.certified_replay.specs.Certified.{WritesCertified, IsCertifiedPast, IsCertifiedOver, IsCertified}
 use Rattle.certified_replay.proofs.Certifying.{AreDue}
 
 -- the ways in which the work past the model can end
@@ -26,14 +26,15 @@ record Ends (v : View) (w : WheelParts) (capture : List ℕ) (o : Options) (P : 
   pub opening : (e : Cause) → StopsOpen v capture e → P (Err e)
   pub reading : (e : Cause) → StopsRead v (FileGives v.file capture) e → P (Err e)
   pub writing : (e : Cause) → StopsWrite e → P (Err e)
+  pub closing : P (Err cause.Memory)
   pub done : (c : Capture) → Told v (HasNamedCapture v.file capture w o c) → P (ended_by c.end)
 
 writes_ends : (w : WheelParts) (c : Capture) (P : Result Done Cause → Type 0) (work : Work) → ((e : Cause) → StopsWrite e → P (Err e)) → P (ended_by c.end) → WritesCertified w c work → P work.end
 writes_ends w c P work writing done (writes, back) = by writes.went
   where
-    by : ((all : List Fellows) × ((end : Result Done Cause) × (AreDue w c all end × (work ≡ record { opened = []; out = lines_text all; made = Some (beside_text all); tails = []; end = end })))) ⊎ Stopped (AreDue w c) work → P work.end
+    by : ((all : List Fellows) × ((end : Result Done Cause) × (AreDue w c all end × (work ≡ record { opened = []; out = lines_text all; made = Some (beside_text all); marks = marks_beside all; tails = []; end = end })))) ⊎ Stopped (AreDue w c) work → P work.end
     by (inl (all, (end, (due, is)))) = subst (λ (k : Work). P k.end) (sym is) (subst P (sym due.1) done)
-    by (inr s) = subst (λ (k : Work). P k.end) (sym s.came) (writing s.cause s.stops)
+    by (inr s) = subst (λ (k : Work). P k.end) (sym s.came) (writing s.why s.stops)
 
 takes_ends : (v : View) (w : WheelParts) (capture : List ℕ) (o : Options) (P : Result Done Cause → Type 0) (work : Work) → Ends v w capture o P → Takes v (FileGives v.file capture) (HasNamedCapture v.file capture w o) (λ c. WritesCertified w c) work → P work.end
 takes_ends v w capture o P work ends r = by r.went
@@ -51,21 +52,18 @@ creates_ends v w capture cert o P work ends r = by r.went
     by (inl (e, (s, is))) = subst (λ (k : Work). P k.end) (sym is) (ends.writing e s)
     by (inr (rest, (n, is))) = subst (λ (k : Work). P k.end) (sym is) (takes_ends v w capture o P rest ends n)
 
-over_ends : (v : View) (w : WheelParts) (capture cert : List ℕ) (o : Options) (P : Result Done Cause → Type 0) (work : Work) → Ends v w capture o P → IsCertifiedOver v w capture cert o work → P work.end
-over_ends v w capture cert o P work ends r = by r.went
-  where
-    by : ((e : Cause) × (StopsOpen v capture e × (work ≡ stopped [] e))) ⊎ ((taken : ℕ) × ((rest : Work) × (Creates cert (Takes v (FileGives v.file capture) (HasNamedCapture v.file capture w o) (λ c. WritesCertified w c)) rest × (work ≡ after (read_slot capture taken) rest))))
-        → P work.end
-    by (inl (e, (s, is))) = subst (λ (k : Work). P k.end) (sym is) (ends.opening e s)
-    by (inr (taken, (rest, (n, is)))) = subst (λ (k : Work). P k.end) (sym is) (creates_ends v w capture cert o P rest ends n)
+over_ends : (v : View) (tails : List ℕ → List ℕ) (w : WheelParts) (capture cert : List ℕ) (o : Options) (P : Result Done Cause → Type 0) (work : Work) → Ends v w capture o P → IsCertifiedOver v tails w capture cert o work → P work.end
+over_ends v tails w capture cert o P work ends r =
+    opens_end v capture (Closes tails (IsCertifiedPast v w capture cert o)) P work ends.opening
+    (λ rest n. closes_end tails (IsCertifiedPast v w capture cert o) P rest (λ more m. creates_ends v w capture cert o P more ends m) ends.closing n) r
 
 -- over accepted files and a steady shelf it ends as the capture does, or wants memory, or a write fails
-pub certified_ends : (P : Result Done Cause → Type 0) (v : View) (model capture cert : List ℕ) (o : Options) (w : WheelParts) (c : Capture) (work : Work) → IsTrue v.tells → IsTrue v.steady → HasPlacedWheel v.file model w
-    → HasNamedCapture v.file capture w o c → P (ended_by c.end) → P (Err cause.Memory) → P (Err cause.WriteFault) → IsCertified v model capture cert o work → P work.end
-certified_ends P v model capture cert o w c work told steady m k done memory fault r =
-    reads_ready v model (ModelGives v.file model) (HasPlacedWheel v.file model) (λ w. IsCertifiedOver v w capture cert o) P m.wheel.bytes w work told steady m.wheel.holds.there (model_gives_none v.file model w m)
+pub certified_ends : (P : Result Done Cause → Type 0) (v : View) (tails : List ℕ → List ℕ) (model capture cert : List ℕ) (o : Options) (w : WheelParts) (c : Capture) (work : Work) → IsTrue v.tells → IsTrue v.steady → HasPlacedWheel v.file model w
+    → HasNamedCapture v.file capture w o c → P (ended_by c.end) → P (Err cause.Memory) → P (Err cause.WriteFault) → IsCertified v tails model capture cert o work → P work.end
+certified_ends P v tails model capture cert o w c work told steady m k done memory fault r =
+    reads_ready v model (ModelGives v.file model) (HasPlacedWheel v.file model) (λ w. IsCertifiedOver v tails w capture cert o) P m.wheel.bytes w work told steady m.wheel.holds.there (model_gives_none v.file model w m)
     (λ u h. file_has_one_wheel v.file model u w h.wheel m.wheel) memory
-    (λ rest n. over_ends v w capture cert o P rest (record { opening = opening; reading = reading; writing = writing; done = λ d a. subst (λ (e : Capture). P (ended_by e.end)) (sym (file_has_one_capture v.file capture w o d c (a told) k)) done }) n) r
+    (λ rest n. over_ends v tails w capture cert o P rest (record { opening = opening; reading = reading; writing = writing; closing = memory; done = λ d a. subst (λ (e : Capture). P (ended_by e.end)) (sym (file_has_one_capture v.file capture w o d c (a told) k)) done }) n) r
   where
     opening : (e : Cause) → StopsOpen v capture e → P (Err e)
     opening cause.ReadFault s = let gone : Some k.bytes ≡ None = sym k.holds.there ∙ s told steady in absurd (cc)
@@ -100,15 +98,16 @@ not_cause : (e : Cause) → (e ≡ cause.Usage → ⊥) → ◌≡◌ {A = Resul
 not_cause e n is = let same : e ≡ cause.Usage = cc in n same
 
 -- it does not end for usage
-pub certified_not_usage : (v : View) (model capture cert : List ℕ) (o : Options) (work : Work) → IsCertified v model capture cert o work → work.end ≡ Err cause.Usage → ⊥
-certified_not_usage v model capture cert o work r =
-    reads_end v model (ModelGives v.file model) (HasPlacedWheel v.file model) (λ w. IsCertifiedOver v w capture cert o) (λ end. end ≡ Err cause.Usage → ⊥) work
+pub certified_not_usage : (v : View) (tails : List ℕ → List ℕ) (model capture cert : List ℕ) (o : Options) (work : Work) → IsCertified v tails model capture cert o work → work.end ≡ Err cause.Usage → ⊥
+certified_not_usage v tails model capture cert o work r =
+    reads_end v model (ModelGives v.file model) (HasPlacedWheel v.file model) (λ w. IsCertifiedOver v tails w capture cert o) (λ end. end ≡ Err cause.Usage → ⊥) work
     (λ e s. not_cause e (open_not_usage v model e s)) (λ e s. not_cause e (read_not_usage v (ModelGives v.file model) e s))
     (λ w rest a n.
-    over_ends v w capture cert o (λ end. end ≡ Err cause.Usage → ⊥) rest (record {
+    over_ends v tails w capture cert o (λ end. end ≡ Err cause.Usage → ⊥) rest (record {
       opening = λ e s. not_cause e (open_not_usage v capture e s);
       reading = λ e s. not_cause e (read_not_usage v (FileGives v.file capture) e s);
       writing = λ e s. not_cause e (write_not_usage e s);
+      closing = λ is. cc;
       done = λ c b. ended_not_usage c.end;
     }) n)
     r

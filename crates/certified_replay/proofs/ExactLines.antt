@@ -103,8 +103,8 @@ pub lines_added : (before after : PlainSet) (i : Instant) (past : List Instant) 
     → wheel_of after ≡ wheel_of before → (s : StandsFor after (i ∷ past) (v ∷ vs)) → AreExactLines (wheel_of before) past vs cs window → index ≡ length past + 1 → c.index ≡ index
     → ((j : Instant) (since : List Instant) → IsVerdict (wheel_of after) (j ∷ since) v → IsNextWindow (wheel_of after) j since v s.kept.window → HasExactKind (wheel_of after) (j ∷ since) v c.kind)
     → c.cover ≡ end_places after → IsReportInRange (report_of index i v) → IsCertLineInRange c → lines.report.items ≡ report_line_text (report_of index i v) → lines.certificate.items ≡ cert_line_text c
-    → AddsLines (wheel_of before) after i past vs cs lines
-lines_added before after i past vs cs v c window index lines same s x number named kind cover range line_range report certificate =
+    → lines.said ≡ report_of index i v → AddsLines (wheel_of before) after i past vs cs lines
+lines_added before after i past vs cs v c window index lines same s x number named kind cover range line_range report certificate said =
     let old : AreExactLines (wheel_of after) past vs cs window = subst (λ w. AreExactLines w past vs cs window) (sym same) x in
     let ends : AreEndsOf (wheel_of after) s.kept.window c.cover = subst (AreEndsOf (wheel_of after) s.kept.window) (sym cover) s.ends in
     let more = one_more_line (wheel_of after) i past vs cs v c window s.kept.window old s.kept.windows (named ∙ number) (kind i) ends in
@@ -120,4 +120,5 @@ lines_added before after i past vs cs v c window index lines same s x number nam
       };
       report_text = subst (λ n. lines.report.items ≡ report_line_text (report_of n i v)) number report;
       line_text = certificate;
+      said = subst (λ n. lines.said ≡ report_of n i v) number said;
     }

@@ -20,6 +20,7 @@ use Rattle.certificate_checker.specs.Exact.{AreExactLines}
 use Rattle.certificate_checker.specs.Reports.{report_of, reports_of}
 use Rattle.certificate_checker.proofs.ExactExists.{extended}
 use Rattle.certificate_checker.proofs.ExactValid.{exact_is_valid}
+use Rattle.tap_board.specs.Marks.{mark_of}
 use Rattle.run_ends.specs.Stages.{Fellows, lines_text, beside_text}
 use Rattle.certified_replay.specs.Certified.{fellows_of, AreCertified, AreBelieved}
 
@@ -51,7 +52,7 @@ fellows_append : (rs qs : List Report) (cs ds : List CertLine) → length rs ≡
 fellows_append [] qs [] ds h = refl
 fellows_append [] qs (c ∷ cs) ds h = absurd (omega (arith, h))
 fellows_append (r ∷ rs) qs [] ds h = absurd (omega (arith, h))
-fellows_append (r ∷ rs) qs (c ∷ cs) ds h = ap (λ l. record { line = report_line_text r; beside = cert_line_text c } ∷ l) (fellows_append rs qs cs ds (omega (arith, h)))
+fellows_append (r ∷ rs) qs (c ∷ cs) ds h = ap (λ l. record { line = report_line_text r; beside = cert_line_text c; mark = mark_of r.verdict } ∷ l) (fellows_append rs qs cs ds (omega (arith, h)))
 
 fellows_count : (rs : List Report) (cs : List CertLine) → length rs ≡ length cs → length (fellows_of rs cs) ≡ length rs
 fellows_count [] cs h = refl

@@ -1,6 +1,9 @@
+pub mod Marks
 pub mod ExactLines
 pub mod Fellows
 pub mod Putting
+pub mod Taking
+pub mod Shutting
 pub mod Certifying
 pub mod Ending
 pub mod NotDenied

@@ -18,7 +18,9 @@ use Rattle.run_ends.specs.declared.cause.Cause.{Cause}
 use Rattle.run_ends.specs.declared.cause.Done.{Done}
 use Rattle.run_ends.specs.declared.cause.Done.TheVariants as done
 use Rattle.run_ends.specs.Works.{Work, Told, Reads, Writes, StopsOpen, StopsRead, StopsWrite, stopped, read_slot, after, Went}
-use Rattle.run_ends.specs.Stages.{Opens, Creates, Takes, WritesBoth, write_slot}
+use Rattle.run_ends.specs.Stages.{Past, Closes, Creates, Takes, write_slot, IsClosed, unclosed}
+use Rattle.run_ends.proofs.Tapping.{unclosed_cases}
+use Rattle.run_ends.specs.declared.cause.Cause.TheVariants as cause
 use Rattle.run_ends.proofs.Completing.{reads_end, writes_end}
 use Rattle.run_files.specs.Causes.{FileGives, ModelGives, ReportGives, CertificateGives}
 use Rattle.run_files.specs.Files.{Holds, HasWheel, HasPlacedWheel, HasReport, HasCertificate}
@@ -26,7 +28,7 @@ use Rattle.run_files.proofs.Ready.{file_has_one_wheel}
 use Rattle.named_captures.specs.Captures.{HasNamedCapture, HasCleanCapture, CleanGives}
 use Rattle.named_captures.proofs.FileNames.{file_has_one_capture}
 use Rattle.check_command.specs.Check.{IsAnswered, IsCheck, ended_with}
-use Rattle.certified_replay.specs.Certified.{AreBelieved, WritesCertified, IsCertifiedOver, IsCertified}
+use Rattle.certified_replay.specs.Certified.{AreBelieved, WritesCertified, IsCertifiedPast, IsCertifiedOver, IsCertified}
 use Rattle.certified_replay.specs.Laws.{HasWritten}
 
 -- what a replay that is done has read and written
@@ -64,14 +66,32 @@ by_creates v w capture cert o work r whole = by r.went
           believed = subst (λ out. AreBelieved w h.instants.instants out h.made) (sym (ap (λ (k : Work). k.out) is)) h.believed;
         }
 
-by_opens : (v : View) (w : WheelParts) (capture cert : List ℕ) (o : Options) (work : Work) → IsCertifiedOver v w capture cert o work → work.end ≡ Ok done.Whole → HasDone v w capture o work
-by_opens v w capture cert o work r whole = by r.went
+by_closes : (v : View) (tails : List ℕ → List ℕ) (w : WheelParts) (capture cert : List ℕ) (o : Options) (work : Work) → Closes tails (IsCertifiedPast v w capture cert o) work → work.end ≡ Ok done.Whole → HasDone v w capture o work
+by_closes v tails w capture cert o work r whole = by r.closed
   where
-    by : ((e : Cause) × (StopsOpen v capture e × (work ≡ stopped [] e))) ⊎ ((taken : ℕ) × ((rest : Work) × (Creates cert (Takes v (FileGives v.file capture) (HasNamedCapture v.file capture w o) (λ c. WritesCertified w c)) rest × (work ≡ after (read_slot capture taken) rest))))
-        → HasDone v w capture o work
+    not_unclosed : ((r.rest.end ≡ Err cause.WriteFault) × (unclosed r.rest.end ≡ r.rest.end)) ⊎ ((¬ (r.rest.end ≡ Err cause.WriteFault)) × (unclosed r.rest.end ≡ Err cause.Memory)) → unclosed r.rest.end ≡ Ok done.Whole → ⊥
+    not_unclosed (inl (fault, same)) is = not_done cause.WriteFault (sym fault ∙ sym same ∙ is)
+    not_unclosed (inr (n, want)) is = not_done cause.Memory (sym want ∙ is)
+
+    by : IsClosed tails r.rest work → HasDone v w capture o work
+    by (inl (n, is)) =
+        let h = by_creates v w capture cert o r.rest r.went (sym (ap (λ (k : Work). k.end) is) ∙ whole) in
+        record {
+          instants = h.instants;
+          captured = h.captured;
+          made = h.made;
+          is_made = ap (λ (k : Work). k.made) is ∙ h.is_made;
+          believed = subst (λ out. AreBelieved w h.instants.instants out h.made) (sym (ap (λ (k : Work). k.out) is)) h.believed;
+        }
+    by (inr is) = absurd (not_unclosed (unclosed_cases r.rest.end) (sym (ap (λ (k : Work). k.end) is) ∙ whole))
+
+by_opens : (v : View) (tails : List ℕ → List ℕ) (w : WheelParts) (capture cert : List ℕ) (o : Options) (work : Work) → IsCertifiedOver v tails w capture cert o work → work.end ≡ Ok done.Whole → HasDone v w capture o work
+by_opens v tails w capture cert o work r whole = by r.went
+  where
+    by : ((e : Cause) × (StopsOpen v capture e × (work ≡ stopped [] e))) ⊎ Past capture (Closes tails (IsCertifiedPast v w capture cert o)) work → HasDone v w capture o work
     by (inl (e, (s, is))) = absurd (not_done e (sym (ap (λ (k : Work). k.end) is) ∙ whole))
     by (inr (taken, (rest, (n, is)))) =
-        let h = by_creates v w capture cert o rest n (sym (ap (λ (k : Work). k.end) is) ∙ whole) in
+        let h = by_closes v tails w capture cert o rest n (sym (ap (λ (k : Work). k.end) is) ∙ whole) in
         record {
           instants = h.instants;
           captured = h.captured;
@@ -109,9 +129,9 @@ answered v u model capture report cert o w x c rs cs a work told m d h n k r q a
     (subst (λ (z : Capture). IsValid w z.instants rs cs) (sym one) (subst (λ l. IsValid w d.instants.instants l cs) (sym reports) (subst (IsValid w d.instants.instants d.believed.report) (sym lines) d.believed.valid))) in
     answer_yes x c.instants rs cs a valid answer
 
-pub not_denied : (v u : View) (model capture report cert made : List ℕ) (o : Options) (replayed checked : Work) → IsTrue v.tells → IsCertified v model capture made o replayed → replayed.end ≡ Ok done.Whole
+pub not_denied : (v u : View) (tails : List ℕ → List ℕ) (model capture report cert made : List ℕ) (o : Options) (replayed checked : Work) → IsTrue v.tells → IsCertified v tails model capture made o replayed → replayed.end ≡ Ok done.Whole
     → HasWritten v u model capture report cert replayed → IsCheck u model capture report cert o checked → checked.end ≡ Ok done.No → ⊥
-not_denied v u model capture report cert made o replayed checked told r whole h check = by r.went
+not_denied v u tails model capture report cert made o replayed checked told r whole h check = by r.went
   where
     denied : (w : WheelParts) (work : Work) → HasPlacedWheel v.file model w → HasDone v w capture o work → HasWritten v u model capture report cert work → checked.end ≡ Ok done.No → ⊥
     denied w work m d h =
@@ -138,11 +158,11 @@ not_denied v u model capture report cert made o replayed checked told r whole h 
         (λ e s is. cc) z) t) q) p)
         check
 
-    by : Went v model (ModelGives v.file model) (HasPlacedWheel v.file model) (λ w. IsCertifiedOver v w capture made o) replayed → checked.end ≡ Ok done.No → ⊥
+    by : Went v model (ModelGives v.file model) (HasPlacedWheel v.file model) (λ w. IsCertifiedOver v tails w capture made o) replayed → checked.end ≡ Ok done.No → ⊥
     by (inl (e, (s, is))) = absurd (not_done e (sym (ap (λ (k : Work). k.end) is) ∙ whole))
     by (inr (inl (e, (taken, (s, is))))) = absurd (not_done e (sym (ap (λ (k : Work). k.end) is) ∙ whole))
     by (inr (inr (w, (taken, (rest, (a, (n, is))))))) =
-        let d = by_opens v w capture made o rest n (sym (ap (λ (k : Work). k.end) is) ∙ whole) in
+        let d = by_opens v tails w capture made o rest n (sym (ap (λ (k : Work). k.end) is) ∙ whole) in
         denied w replayed (a told) (record {
           instants = d.instants;
           captured = d.captured;

@@ -1,10 +1,10 @@
 -- A report and its certificate that are written line by line.
 use Rattle.std.proofs.Common.{◌≡◌, ℕ, zero, suc, ◌+◌, ◌<◌, ◌≤◌, ◌⊎◌, inl, inr, ℤ, ◌<ℤ◌, List, [], ◌∷◌, ◌++◌, length, reverse, take, drop, get_or, refl, sym, ap, ◌∙◌, subst, arith, add-one, append_assoc, append-nil, length-drop}
-use Rattle.std.proofs.lemmas.List.{length-take-le, length-reverse, reverse-append}
+use Rattle.std.proofs.lemmas.List.{length-take-le, length-reverse, reverse-append, map-append}
 use Rattle.std.proofs.lemmas.List.Elements.{All-append, All-cons}
 use Rattle.std.proofs.lemmas.Grind.{flat_map-append}
 use Rattle.std.proofs.Math.Seq.{take-length, take-suc}
-use Rattle.std.specs.Prelude.{All, Option, Some, None, IfSome, IsTrue, flat_map}
+use Rattle.std.specs.Prelude.{All, Option, Some, None, IfSome, IsTrue, flat_map, Result, Ok, Err, IfErr, OnErr}
 use Rattle.std.specs.Io.KnownBytes.{Appends}
 use Rattle.std.proofs.KnownBytes.{Appends-trans}
 use Rattle.shelf_traits.specs.Shelf.{View, Position, WritesOn}
@@ -20,14 +20,20 @@ use Rattle.pair_certificate.specs.declared.line.CertLine.{CertLine}
 use Rattle.pair_certificate.specs.Reports.{IsReportInRange, IsCertLineInRange}
 use Rattle.certificate_checker.specs.Exact.{AreExactLines}
 use Rattle.certificate_checker.specs.Reports.{report_of, reports_of}
-use Rattle.run_ends.specs.Stages.{Fellows, AreCut, lines_text, beside_text}
-use Rattle.run_ends.specs.Filing.{Grows, GrowsByFront}
-use Rattle.run_ends.specs.Prefixes.{AppendsPrefix}
+use Rattle.run_ends.specs.Stages.{Fellows, AreCut, lines_text, beside_text, marks_beside}
+use Rattle.run_ends.specs.Filing.{Grows}
+use Rattle.run_ends.specs.declared.cause.Cause.TheVariants as cause
+use Rattle.tap_board.specs.Marks.{mark_of}
+use Rattle.tap_board.specs.Meanings.{Meaning, told, told_all}
+use Rattle.certified_replay.specs.Wholes.{AppendsPart, GrowsByPart}
+use Rattle.certified_replay.proofs.Marks.{heard_next}
 use Rattle.run_ends.specs.Serving.{Stream}
 use Rattle.run_ends.specs.declared.cause.Cause.{Cause}
 use Rattle.shelf_traits.specs.Count.{Rose}
 use Rattle.shelf_io.specs.Touching.{FailedWrite}
 use Rattle.wheel_types.specs.Texts.{report_line_text}
+use Rattle.wheel_types.specs.declared.verdict.Report.{Report}
+use Rattle.pair_certificate.specs.Certificates.{cert_line_text}
 use Rattle.certified_replay.specs.declared.lines.Lines.{Lines}
 use Rattle.certified_replay.specs.Lines.{AddsLines}
 use Rattle.certified_replay.specs.Certified.{AreCertified}
@@ -52,37 +58,55 @@ texts_after v u w slot old mid new a b c d keeps p q = record {
 }
 
 -- a front of the line alone
-pub cut_line : (v : View) (slot : ℕ) (old new : Option (List ℕ)) (line beside text : List ℕ) → text ≡ line → AppendsPrefix old new text → GetsCut v v slot old new (stand_beside line beside)
-cut_line v slot old new line beside text is (k, (within, grown)) = record {
+pub cut_line : (e : Cause) (v : View) (slot : ℕ) (old new : Option (List ℕ)) (line beside : List ℕ) (mark : ℕ) (text : List ℕ) → text ≡ line → AppendsPart old new text → GetsCut e v v slot old new (stand_beside line beside mark)
+cut_line e v slot old new line beside mark text is (k, (short, grown)) = record {
   line = take k line;
   beside = [];
-  are_cut = inl (k, (refl, refl));
+  are_cut = inl (k, (λ fault. subst (λ l. k < length l) is short, (refl, refl)));
   texts = record { out = subst (λ l. Appends old new (take k l)) is grown; file = stays v slot };
 }
 
 -- the line, and a front of its fellow
-pub cut_beside : (v w : View) (slot : ℕ) (old new : Option (List ℕ)) (line beside text piece : List ℕ) → text ≡ line → piece ≡ beside → Appends old new text → GrowsByFront v w slot piece → GetsCut v w slot old new (stand_beside line beside)
-cut_beside v w slot old new line beside text piece is same grown (k, (within, more)) = record {
+pub cut_beside : (e : Cause) (v w : View) (slot : ℕ) (old new : Option (List ℕ)) (line beside : List ℕ) (mark : ℕ) (text piece : List ℕ) → text ≡ line → piece ≡ beside → Appends old new text → GrowsByPart v w slot piece
+    → GetsCut e v w slot old new (stand_beside line beside mark)
+cut_beside e v w slot old new line beside mark text piece is same grown (k, (short, more)) = record {
   line = line;
   beside = take k beside;
-  are_cut = inr (refl, (k, refl));
+  are_cut = inr (refl, (k, (λ fault. subst (λ l. k < length l) same short, refl)));
   texts = record { out = subst (Appends old new) is grown; file = subst (λ l. Grows v w slot (take k l)) same more };
+}
+
+pub besides_cut : (v w : View) (slot : ℕ) (old new : Option (List ℕ)) (line beside : List ℕ) (mark : ℕ) (text piece : List ℕ) (r : Result Unit Cause) → text ≡ line → piece ≡ beside → Appends old new text → OnErr r (GrowsByPart v w slot piece)
+    → IfErr r (λ e. GetsCut e v w slot old new (stand_beside line beside mark))
+besides_cut v w slot old new line beside mark text piece (Ok x) is same grown more = tt
+besides_cut v w slot old new line beside mark text piece (Err e) is same grown more = cut_beside e v w slot old new line beside mark text piece is same grown more
+
+-- both whole, where memory was wanting past them
+pub cut_past : (v w : View) (slot : ℕ) (old new : Option (List ℕ)) (line beside : List ℕ) (mark : ℕ) → GetsTexts v w slot old new line beside → GetsCut cause.Memory v w slot old new (stand_beside line beside mark)
+cut_past v w slot old new line beside mark texts = record {
+  line = line;
+  beside = take (length beside) beside;
+  are_cut = inr (refl, (length beside, (λ fault. let no : cause.Memory ≡ cause.WriteFault = fault in absurd (cc), refl)));
+  texts = subst (GetsTexts v w slot old new line) (sym (take-length beside)) texts;
 }
 
 -- ---- one instant
 
-pub lines_put : (w : WheelParts) (set : PlainSet) (v u : View) (slot : ℕ) (old new : Option (List ℕ)) (i : Instant) (past : List Instant) (verdicts : List Verdict) (certificate : List CertLine) (lines : Lines)
-    → AddsLines w set i past verdicts certificate lines → GetsTexts v u slot old new lines.report.items lines.certificate.items → GetsLines w set v u slot old new i past verdicts certificate
-lines_put w set v u slot old new i past verdicts certificate lines a texts = record {
+pub lines_put : (w : WheelParts) (set : PlainSet) (v u : View) (slot : ℕ) (old new : Option (List ℕ)) (taps live : List Meaning) (i : Instant) (past : List Instant) (verdicts : List Verdict) (certificate : List CertLine) (lines : Lines)
+    → AddsLines w set i past verdicts certificate lines → GetsTexts v u slot old new lines.report.items lines.certificate.items → live ≡ told (mark_of lines.said.verdict) taps → GetsLines w set v u slot old new taps live i past verdicts certificate
+lines_put w set v u slot old new taps live i past verdicts certificate lines a texts heard = record {
   takes = a.takes;
   texts = subst (GetsTexts v u slot old new (report_line_text (report_of (length past + 1) i a.takes.verdict))) a.line_text (subst (λ l. GetsTexts v u slot old new l lines.certificate.items) a.report_text texts);
+  heard = heard ∙ ap (λ (r : Report). told (mark_of r.verdict) taps) a.said;
 }
 
-pub lines_cut : (w : WheelParts) (set : PlainSet) (v u : View) (slot : ℕ) (old new : Option (List ℕ)) (i : Instant) (past : List Instant) (verdicts : List Verdict) (certificate : List CertLine) (lines : Lines)
-    → AddsLines w set i past verdicts certificate lines → GetsCut v u slot old new (stand_beside lines.report.items lines.certificate.items) → GetsCutLines w set v u slot old new i past verdicts certificate
-lines_cut w set v u slot old new i past verdicts certificate lines a cut = record {
+pub lines_cut : (e : Cause) (w : WheelParts) (set : PlainSet) (v u : View) (slot : ℕ) (old new : Option (List ℕ)) (i : Instant) (past : List Instant) (verdicts : List Verdict) (certificate : List CertLine) (lines : Lines)
+    → AddsLines w set i past verdicts certificate lines → GetsCut e v u slot old new (stand_beside lines.report.items lines.certificate.items (mark_of lines.said.verdict)) → GetsCutLines e w set v u slot old new i past verdicts certificate
+lines_cut e w set v u slot old new i past verdicts certificate lines a cut = record {
   takes = a.takes;
-  cut = subst (λ l. GetsCut v u slot old new (stand_beside (report_line_text (report_of (length past + 1) i a.takes.verdict)) l)) a.line_text (subst (λ l. GetsCut v u slot old new (stand_beside l lines.certificate.items)) a.report_text cut);
+  cut = subst (λ (r : Report). GetsCut e v u slot old new (stand_beside (report_line_text (report_of (length past + 1) i a.takes.verdict)) (cert_line_text a.takes.line) (mark_of r.verdict))) a.said
+      (subst (λ l. GetsCut e v u slot old new (stand_beside (report_line_text (report_of (length past + 1) i a.takes.verdict)) l (mark_of lines.said.verdict))) a.line_text
+      (subst (λ l. GetsCut e v u slot old new (stand_beside l lines.certificate.items (mark_of lines.said.verdict))) a.report_text cut));
 }
 
 -- what stopped past calls on which no count rose
@@ -113,8 +137,8 @@ unwritten v slot = record {
 
 -- ---- the first k instants
 
--- they were taken, and out and the file have their lines
-pub record HasPut (first set : PlainSet) (v u : View) (slot : ℕ) (old new : Option (List ℕ)) (is : List Instant) (k : ℕ) : Type 0 where
+-- they were taken, out and the file have their lines, and the taps were told their marks
+pub record HasPut (first set : PlainSet) (v u : View) (slot : ℕ) (old new : Option (List ℕ)) (taps live : List Meaning) (is : List Instant) (k : ℕ) : Type 0 where
   pub verdicts : List Verdict
   pub lines : List CertLine
   pub window : List Instant
@@ -125,10 +149,11 @@ pub record HasPut (first set : PlainSet) (v u : View) (slot : ℕ) (old new : Op
   pub reports : All IsReportInRange (reports_of 1 (take k is) (reverse verdicts))
   pub certificate : All IsCertLineInRange (reverse lines)
   pub texts : GetsTexts v u slot old new (lines_text (pairs_of (take k is) verdicts lines)) (beside_text (pairs_of (take k is) verdicts lines))
+  pub heard : live ≡ told_all (marks_beside (pairs_of (take k is) verdicts lines)) taps
 
 -- none yet
-pub none_put : (first : PlainSet) (v : View) (slot : ℕ) (old : Option (List ℕ)) (is : List Instant) → StandsFor first [] [] → last_of first ≡ None → Appends old old [] → HasPut first first v v slot old old is 0
-none_put first v slot old is s l a = record {
+pub none_put : (first : PlainSet) (v : View) (slot : ℕ) (old : Option (List ℕ)) (taps : List Meaning) (is : List Instant) → StandsFor first [] [] → last_of first ≡ None → Appends old old [] → HasPut first first v v slot old old taps taps is 0
+none_put first v slot old taps is s l a = record {
   verdicts = [];
   lines = [];
   window = [];
@@ -139,6 +164,7 @@ none_put first v slot old is s l a = record {
   reports = none IsReportInRange;
   certificate = none IsCertLineInRange;
   texts = record { out = a; file = stays v slot };
+  heard = refl;
 }
   where
     none : {X : Type 0} (P : X → Type 0) → All P []
@@ -205,6 +231,9 @@ lines_more first rest = flat_map-append (λ (f : Fellows). f.line) first rest
 beside_more : (first rest : List Fellows) → beside_text (first ++ rest) ≡ beside_text first ++ beside_text rest
 beside_more first rest = flat_map-append (λ (f : Fellows). f.beside) first rest
 
+marks_more : (first rest : List Fellows) → marks_beside (first ++ rest) ≡ marks_beside first ++ marks_beside rest
+marks_more first rest = map-append (λ (f : Fellows). f.mark) first rest
+
 -- the texts with one more pair
 one_pair : (v u w : View) (slot : ℕ) (old mid new : Option (List ℕ)) (first all : List Fellows) (f : Fellows) → WritesOn v u slot → all ≡ first ++ f ∷ [] → GetsTexts v u slot old mid (lines_text first) (beside_text first)
     → GetsTexts u w slot mid new f.line f.beside → GetsTexts v w slot old new (lines_text all) (beside_text all)
@@ -218,20 +247,20 @@ one_pair v u w slot old mid new first all f keeps is p q =
     (subst (λ l. GetsTexts v w slot old new l (beside_text first ++ beside_text (f ∷ []))) (sym (lines_more first (f ∷ []))) t))
 
 -- one more instant
-pub next_put : (first before after : PlainSet) (v u w : View) (slot : ℕ) (old mid new : Option (List ℕ)) (is : List Instant) (k : ℕ) (i : Instant) → k < length is → i ≡ get_or is k i → WritesOn v u slot
-    → (p : HasPut first before v u slot old mid is k) → wheel_of after ≡ wheel_of before → last_of after ≡ Some i.time
+pub next_put : (first before after : PlainSet) (v u w : View) (slot : ℕ) (old mid new : Option (List ℕ)) (taps some live : List Meaning) (is : List Instant) (k : ℕ) (i : Instant) → k < length is → i ≡ get_or is k i → WritesOn v u slot
+    → (p : HasPut first before v u slot old mid taps some is k) → wheel_of after ≡ wheel_of before → last_of after ≡ Some i.time
     → ((past : List Instant) (verdicts : List Verdict) (certificate : List CertLine) (window : List Instant) → StandsFor before past verdicts → AreExactLines (wheel_of before) past verdicts certificate window → k + 1 ≡ length past + 1
-    → GetsLines (wheel_of before) after u w slot mid new i past verdicts certificate)
-    → HasPut first after v w slot old new is (k + 1)
-next_put first before after v u w slot old mid new is k i h here keeps p wheel last step = rw add-one (by g)
+    → GetsLines (wheel_of before) after u w slot mid new some live i past verdicts certificate)
+    → HasPut first after v w slot old new taps live is (k + 1)
+next_put first before after v u w slot old mid new taps some live is k i h here keeps p wheel last step = rw add-one (by g)
   where
     x : AreExactLines (wheel_of before) (reverse (take k is)) p.verdicts p.lines p.window
     x = subst (λ wheel. AreExactLines wheel (reverse (take k is)) p.verdicts p.lines p.window) (sym p.wheel) p.exact
 
-    g : GetsLines (wheel_of before) after u w slot mid new i (reverse (take k is)) p.verdicts p.lines
+    g : GetsLines (wheel_of before) after u w slot mid new some live i (reverse (take k is)) p.verdicts p.lines
     g = step (reverse (take k is)) p.verdicts p.lines p.window p.stands x (number_at is k h)
 
-    by : GetsLines (wheel_of before) after u w slot mid new i (reverse (take k is)) p.verdicts p.lines → HasPut first after v w slot old new is (suc k)
+    by : GetsLines (wheel_of before) after u w slot mid new some live i (reverse (take k is)) p.verdicts p.lines → HasPut first after v w slot old new taps live is (suc k)
     by g =
         let t = g.takes in
         let past : reverse (take (suc k) is) ≡ i ∷ reverse (take k is) = past_next is k i h here in
@@ -250,6 +279,8 @@ next_put first before after v u w slot old mid new is k i h here keeps p wheel l
           certificate = subst (All IsCertLineInRange) (sym (reverse-append (t.line ∷ []) p.lines)) (all_one_more IsCertLineInRange (reverse p.lines) t.line p.certificate t.line_range);
           texts = one_pair v u w slot old mid new (pairs_of (take k is) p.verdicts p.lines) (pairs_of (take (suc k) is) (t.verdict ∷ p.verdicts) (t.line ∷ p.lines)) (fellow_of (report_of (length (reverse (take k is)) + 1) i t.verdict) t.line)
               keeps pairs p.texts g.texts;
+          heard = heard_next taps some live (marks_beside (pairs_of (take k is) p.verdicts p.lines)) (marks_beside (pairs_of (take (suc k) is) (t.verdict ∷ p.verdicts) (t.line ∷ p.lines))) (mark_of t.verdict) p.heard g.heard
+              (ap marks_beside pairs ∙ marks_more (pairs_of (take k is) p.verdicts p.lines) (fellow_of (report_of (length (reverse (take k is)) + 1) i t.verdict) t.line ∷ []));
         }
 
 -- ---- where writing stopped
@@ -258,18 +289,18 @@ some_first : {X : Type 0} (xs : List X) (n : ℕ) → 0 < n → length xs ≡ n 
 some_first [] n h e = absurd (omega (arith, h, e))
 some_first (x ∷ rest) n h e = (x, (rest, refl))
 
-pub stopped : (first before after : PlainSet) (v u w : View) (slot : ℕ) (old mid new : Option (List ℕ)) (is : List Instant) (k : ℕ) (i : Instant) → IsWheel (wheel_of first) → IsRising is → k < length is → i ≡ get_or is k i → WritesOn v u slot
-    → (p : HasPut first before v u slot old mid is k)
+pub stopped : (e : Cause) (first before after : PlainSet) (v u w : View) (slot : ℕ) (old mid new : Option (List ℕ)) (taps some live : List Meaning) (is : List Instant) (k : ℕ) (i : Instant) → IsWheel (wheel_of first) → IsRising is → k < length is → i ≡ get_or is k i → WritesOn v u slot
+    → (p : HasPut first before v u slot old mid taps some is k) → (e ≡ cause.WriteFault → live ≡ some)
     → ((past : List Instant) (verdicts : List Verdict) (certificate : List CertLine) (window : List Instant) → StandsFor before past verdicts → AreExactLines (wheel_of before) past verdicts certificate window → k + 1 ≡ length past + 1
-    → GetsTexts u w slot mid new [] [] ⊎ GetsCutLines (wheel_of before) after u w slot mid new i past verdicts certificate)
-    → GetsBothFront (wheel_of first) is v w slot old new
-stopped first before after v u w slot old mid new is k i wheel rising h here keeps p step = by (step (reverse (take k is)) p.verdicts p.lines p.window p.stands x (number_at is k h))
+    → ((e ≡ cause.Memory) × GetsTexts u w slot mid new [] []) ⊎ GetsCutLines e (wheel_of before) after u w slot mid new i past verdicts certificate)
+    → GetsBothFront e (wheel_of first) is v w slot old new taps live
+stopped e first before after v u w slot old mid new taps some live is k i wheel rising h here keeps p untold step = by (step (reverse (take k is)) p.verdicts p.lines p.window p.stands x (number_at is k h))
   where
     x : AreExactLines (wheel_of before) (reverse (take k is)) p.verdicts p.lines p.window
     x = subst (λ wheel. AreExactLines wheel (reverse (take k is)) p.verdicts p.lines p.window) (sym p.wheel) p.exact
 
-    by : GetsTexts u w slot mid new [] [] ⊎ GetsCutLines (wheel_of before) after u w slot mid new i (reverse (take k is)) p.verdicts p.lines → GetsBothFront (wheel_of first) is v w slot old new
-    by (inl none) =
+    by : ((e ≡ cause.Memory) × GetsTexts u w slot mid new [] []) ⊎ GetsCutLines e (wheel_of before) after u w slot mid new i (reverse (take k is)) p.verdicts p.lines → GetsBothFront e (wheel_of first) is v w slot old new taps live
+    by (inl (want, none)) =
         let more = goes_on (wheel_of first) is k p.verdicts p.lines p.window wheel rising p.exact in
         let f = some_first more.rest (length (drop k is)) (omega (arith, h, length-drop k is)) more.many in
         record {
@@ -279,8 +310,9 @@ stopped first before after v u w slot old mid new is k i wheel rising h here kee
           certified = subst (λ l. AreCertified (wheel_of first) is (pairs_of (take k is) p.verdicts p.lines ++ l)) f.1.1 more.certified;
           line = [];
           beside = [];
-          are_cut = inl (0, (refl, refl));
+          are_cut = inl (0, (λ fault. let no : cause.Memory ≡ cause.WriteFault = sym want ∙ fault in absurd (cc), (refl, refl)));
           texts = texts_after v u w slot old mid new (lines_text (pairs_of (take k is) p.verdicts p.lines)) (beside_text (pairs_of (take k is) p.verdicts p.lines)) [] [] keeps p.texts none;
+          heard = λ fault. untold fault ∙ p.heard;
         }
     by (inr g) =
         let t = g.takes in
@@ -300,12 +332,14 @@ stopped first before after v u w slot old mid new is k i wheel rising h here kee
           beside = g.cut.beside;
           are_cut = g.cut.are_cut;
           texts = texts_after v u w slot old mid new (lines_text (pairs_of (take k is) p.verdicts p.lines)) (beside_text (pairs_of (take k is) p.verdicts p.lines)) g.cut.line g.cut.beside keeps p.texts g.cut.texts;
+          heard = λ fault. untold fault ∙ p.heard;
         }
 
 -- ---- all instants
 
-pub all_put : (first set : PlainSet) (v u : View) (slot : ℕ) (old new : Option (List ℕ)) (is : List Instant) → IsWheel (wheel_of first) → IsRising is → HasPut first set v u slot old new is (length is) → GetsBoth (wheel_of first) is v u slot old new
-all_put first set v u slot old new is wheel rising p =
+pub all_put : (first set : PlainSet) (v u : View) (slot : ℕ) (old new : Option (List ℕ)) (taps live : List Meaning) (is : List Instant) → IsWheel (wheel_of first) → IsRising is → HasPut first set v u slot old new taps live is (length is)
+    → GetsBoth (wheel_of first) is v u slot old new taps live
+all_put first set v u slot old new taps live is wheel rising p =
     let all : take (length is) is ≡ is = take-length is in
     let exact : AreExactLines (wheel_of first) (reverse is) p.verdicts p.lines p.window = subst (λ l. AreExactLines (wheel_of first) (reverse l) p.verdicts p.lines p.window) all p.exact in
     record {
@@ -313,4 +347,5 @@ all_put first set v u slot old new is wheel rising p =
       certified = certified_by (wheel_of first) is p.verdicts p.lines p.window exact;
       texts = subst (λ l. GetsTexts v u slot old new (lines_text (pairs_of l p.verdicts p.lines)) (beside_text (pairs_of l p.verdicts p.lines))) all p.texts;
       believed = believed_by (wheel_of first) is p.verdicts p.lines p.window wheel rising exact (subst (λ l. All IsReportInRange (reports_of 1 l (reverse p.verdicts))) all p.reports) p.certificate;
+      heard = subst (λ l. live ≡ told_all (marks_beside (pairs_of l p.verdicts p.lines)) taps) all p.heard;
     }

@@ -11,19 +11,20 @@ use Rattle.pair_certificate.specs.Certificates.{cert_line_text}
 use Rattle.pair_certificate.specs.Readings.{MeansReports, MeansCertificate}
 use Rattle.certificate_checker.specs.Valid.{IsValid}
 use Rattle.certificate_checker.specs.Laws.{AreOwn}
+use Rattle.tap_board.specs.Marks.{mark_of}
 use Rattle.command_words.specs.Options.{Options}
 use Rattle.run_ends.specs.declared.cause.Done.{Done}
 use Rattle.run_ends.specs.Works.{Work, Reads}
-use Rattle.run_ends.specs.Stages.{Fellows, Opens, Creates, Takes, WritesBoth}
+use Rattle.run_ends.specs.Stages.{Fellows, Opens, Closes, Creates, Takes, WritesBoth}
 use Rattle.run_files.specs.Causes.{FileGives, ModelGives, ended_by}
 use Rattle.run_files.specs.Files.{HasPlacedWheel}
 use Rattle.named_captures.specs.Captures.{HasNamedCapture}
 
--- the lines of a report, and beside them those of a certificate
+-- the lines of a report, beside them those of a certificate, and the marks of the report
 abbrev pub fellows_of : List Report → List CertLine → List Fellows
 fellows_of [] cs = []
 fellows_of (r ∷ rs) [] = []
-fellows_of (r ∷ rs) (c ∷ cs) = record { line = report_line_text r; beside = cert_line_text c } ∷ fellows_of rs cs
+fellows_of (r ∷ rs) (c ∷ cs) = record { line = report_line_text r; beside = cert_line_text c; mark = mark_of r.verdict } ∷ fellows_of rs cs
 
 -- the lines are those of the report of the instants, and beside them stand those of its exact certificate
 pub record AreCertified (w : WheelParts) (instants : List Instant) (all : List Fellows) : Type 0 where
@@ -48,13 +49,16 @@ ReadsBack w instants work = (x : Done) → work.end ≡ Ok x → (made : List �
 abbrev pub WritesCertified : WheelParts → Capture → Work → Type 0
 WritesCertified w c work = WritesBoth (λ all end. AreCertified w c.instants all × (end ≡ ended_by c.end)) work × ReadsBack w c.instants work
 
--- The capture is opened, and the certificate's file created; then the capture is read over the wheel; the report of its instants is
--- written, and beside it its exact certificate, and the run ends as the capture does.
-abbrev pub IsCertifiedOver : View → WheelParts → (capture cert : List ℕ) → Options → Work → Type 0
-IsCertifiedOver v w capture cert o =
-    Opens v capture (Creates cert (Takes v (FileGives v.file capture) (HasNamedCapture v.file capture w o) (λ c. WritesCertified w c)))
+-- The certificate's file is created; then the capture is read over the wheel; the report of its instants is written, and beside it its
+-- exact certificate, and the run ends as the capture does.
+abbrev pub IsCertifiedPast : View → WheelParts → (capture cert : List ℕ) → Options → Work → Type 0
+IsCertifiedPast v w capture cert o = Creates cert (Takes v (FileGives v.file capture) (HasNamedCapture v.file capture w o) (λ c. WritesCertified w c))
+
+-- The capture is opened, and that work is done; the taps, whose tails are these past any marks, are told of it, and closed at its end.
+abbrev pub IsCertifiedOver : View → (tails : List ℕ → List ℕ) → WheelParts → (capture cert : List ℕ) → Options → Work → Type 0
+IsCertifiedOver v tails w capture cert o = Opens v capture (Closes tails (IsCertifiedPast v w capture cert o))
 
 -- The model is read, and is a wheel with few enough places; then it is replayed over it.
-abbrev pub IsCertified : View → (model capture cert : List ℕ) → Options → Work → Type 0
-IsCertified v model capture cert o =
-    Reads v model (ModelGives v.file model) (HasPlacedWheel v.file model) (λ w. IsCertifiedOver v w capture cert o)
+abbrev pub IsCertified : View → (tails : List ℕ → List ℕ) → (model capture cert : List ℕ) → Options → Work → Type 0
+IsCertified v tails model capture cert o =
+    Reads v model (ModelGives v.file model) (HasPlacedWheel v.file model) (λ w. IsCertifiedOver v tails w capture cert o)

@@ -15,8 +15,8 @@ pub record HasWritten (v u : View) (model capture report cert : List ℕ) (repla
   pub report_file : u.file report ≡ Some replayed.out
   pub cert_file : u.file cert ≡ replayed.made
 
--- A replay that is done over told files wrote a report and a certificate; whoever checks the two, over the same model and capture and by
+-- A replay that is done over told files, with any taps, wrote a report and a certificate; whoever checks the two, over the same model and capture and by
 -- the same names, is never told no.
 abbrev pub OwnAreNotDenied : Type 0
-OwnAreNotDenied = (v u : View) (model capture report cert made : List ℕ) (o : Options) (replayed checked : Work) → IsTrue v.tells → IsCertified v model capture made o replayed → replayed.end ≡ Ok done.Whole
+OwnAreNotDenied = (v u : View) (tails : List ℕ → List ℕ) (model capture report cert made : List ℕ) (o : Options) (replayed checked : Work) → IsTrue v.tells → IsCertified v tails model capture made o replayed → replayed.end ≡ Ok done.Whole
     → HasWritten v u model capture report cert replayed → IsCheck u model capture report cert o checked → checked.end ≡ Ok done.No → ⊥

@@ -1,4 +1,5 @@
 pub mod Lines
+pub mod Wholes
 pub mod Certified
 pub mod Puts
 pub mod Openings

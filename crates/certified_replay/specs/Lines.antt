@@ -24,8 +24,9 @@ pub record TakesOne (w : WheelParts) (set : PlainSet) (i : Instant) (past : List
   pub report_range : IsReportInRange (report_of (length past + 1) i verdict)
   pub line_range : IsCertLineInRange line
 
--- and these are the texts of the two
+-- and these are the texts of the two, and what the first says
 pub record AddsLines (w : WheelParts) (set : PlainSet) (i : Instant) (past : List Instant) (verdicts : List Verdict) (certificate : List CertLine) (lines : Lines) : Type 0 where
   pub takes : TakesOne w set i past verdicts certificate
   pub report_text : lines.report.items ≡ report_line_text (report_of (length past + 1) i takes.verdict)
   pub line_text : lines.certificate.items ≡ cert_line_text takes.line
+  pub said : lines.said ≡ report_of (length past + 1) i takes.verdict

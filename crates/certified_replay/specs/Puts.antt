@@ -18,8 +18,10 @@ use Rattle.run_ends.specs.declared.cause.Cause.{Cause}
 use Rattle.run_ends.specs.declared.cause.Cause.TheVariants as cause
 use Rattle.run_ends.specs.Works.{StopsWrite}
 use Rattle.run_ends.specs.Serving.{Stream}
-use Rattle.run_ends.specs.Stages.{Fellows, AreCut, lines_text, beside_text}
+use Rattle.run_ends.specs.Stages.{Fellows, AreCut, lines_text, beside_text, marks_beside}
 use Rattle.run_ends.specs.Filing.{Grows}
+use Rattle.tap_board.specs.Marks.{mark_of}
+use Rattle.tap_board.specs.Meanings.{Meaning, told, told_all}
 use Rattle.certified_replay.specs.Lines.{TakesOne}
 use Rattle.certified_replay.specs.Certified.{AreCertified, AreBelieved}
 
@@ -35,45 +37,49 @@ pub record GetsTexts (v w : View) (slot : ℕ) (old new : Option (List ℕ)) (te
   pub out : Appends old new text
   pub file : Grows v w slot beside
 
--- out and the file get a line and its fellow as far as writing came
-pub record GetsCut (v w : View) (slot : ℕ) (old new : Option (List ℕ)) (f : Fellows) : Type 0 where
+-- out and the file get a line and its fellow as far as writing came, where it stopped for this cause
+pub record GetsCut (e : Cause) (v w : View) (slot : ℕ) (old new : Option (List ℕ)) (f : Fellows) : Type 0 where
   pub line : List ℕ
   pub beside : List ℕ
-  pub are_cut : AreCut f line beside
+  pub are_cut : AreCut e f line beside
   pub texts : GetsTexts v w slot old new line beside
 
--- a line, and its fellow
-abbrev pub stand_beside : (line beside : List ℕ) → Fellows
-stand_beside line beside = record { line = line; beside = beside }
+-- a line, its fellow, and the mark
+abbrev pub stand_beside : (line beside : List ℕ) (mark : ℕ) → Fellows
+stand_beside line beside mark = record { line = line; beside = beside; mark = mark }
 
 -- a line of a report, and the line of a certificate beside it
 abbrev pub fellow_of : Report → CertLine → Fellows
-fellow_of r c = stand_beside (report_line_text r) (cert_line_text c)
+fellow_of r c = stand_beside (report_line_text r) (cert_line_text c) (mark_of r.verdict)
 
--- one more instant was taken, and out and the file got its two lines
-pub record GetsLines (w : WheelParts) (set : PlainSet) (v u : View) (slot : ℕ) (old new : Option (List ℕ)) (i : Instant) (past : List Instant) (verdicts : List Verdict) (certificate : List CertLine) : Type 0 where
+-- one more instant was taken, out and the file got its two lines, and the taps were told its mark
+pub record GetsLines (w : WheelParts) (set : PlainSet) (v u : View) (slot : ℕ) (old new : Option (List ℕ)) (taps live : List Meaning) (i : Instant) (past : List Instant) (verdicts : List Verdict) (certificate : List CertLine) : Type 0 where
   pub takes : TakesOne w set i past verdicts certificate
   pub texts : GetsTexts v u slot old new (report_line_text (report_of (length past + 1) i takes.verdict)) (cert_line_text takes.line)
+  pub heard : live ≡ told (mark_of takes.verdict) taps
 
 -- or they got its two lines as far as writing came
-pub record GetsCutLines (w : WheelParts) (set : PlainSet) (v u : View) (slot : ℕ) (old new : Option (List ℕ)) (i : Instant) (past : List Instant) (verdicts : List Verdict) (certificate : List CertLine) : Type 0 where
+pub record GetsCutLines (e : Cause) (w : WheelParts) (set : PlainSet) (v u : View) (slot : ℕ) (old new : Option (List ℕ)) (i : Instant) (past : List Instant) (verdicts : List Verdict) (certificate : List CertLine) : Type 0 where
   pub takes : TakesOne w set i past verdicts certificate
-  pub cut : GetsCut v u slot old new (fellow_of (report_of (length past + 1) i takes.verdict) takes.line)
+  pub cut : GetsCut e v u slot old new (fellow_of (report_of (length past + 1) i takes.verdict) takes.line)
 
--- out and the file got the report of the instants and its exact certificate, and these are a report and a certificate that is valid for it
-pub record GetsBoth (w : WheelParts) (instants : List Instant) (v u : View) (slot : ℕ) (old new : Option (List ℕ)) : Type 0 where
+-- out and the file got the report of the instants and its exact certificate, these are a report and a certificate that is valid for it, and
+-- the taps were told the marks of all
+pub record GetsBoth (w : WheelParts) (instants : List Instant) (v u : View) (slot : ℕ) (old new : Option (List ℕ)) (taps live : List Meaning) : Type 0 where
   pub all : List Fellows
   pub certified : AreCertified w instants all
   pub texts : GetsTexts v u slot old new (lines_text all) (beside_text all)
   pub believed : AreBelieved w instants (lines_text all) (beside_text all)
+  pub heard : live ≡ told_all (marks_beside all) taps
 
--- or they got them as far as writing came
-pub record GetsBothFront (w : WheelParts) (instants : List Instant) (v u : View) (slot : ℕ) (old new : Option (List ℕ)) : Type 0 where
+-- or they got them as far as writing came, where it stopped for this cause
+pub record GetsBothFront (e : Cause) (w : WheelParts) (instants : List Instant) (v u : View) (slot : ℕ) (old new : Option (List ℕ)) (taps live : List Meaning) : Type 0 where
   pub before : List Fellows
   pub cut : Fellows
   pub rest : List Fellows
   pub certified : AreCertified w instants (before ++ cut ∷ rest)
   pub line : List ℕ
   pub beside : List ℕ
-  pub are_cut : AreCut cut line beside
+  pub are_cut : AreCut e cut line beside
   pub texts : GetsTexts v u slot old new (lines_text before ++ line) (beside_text before ++ beside)
+  pub heard : e ≡ cause.WriteFault → live ≡ told_all (marks_beside before) taps

@@ -15,11 +15,13 @@ use plain_motion::PlainSet;
 use std::alloc::Global;
 use wheel_types::{Instant, List, Memory, Place, Report, Verdict};
 
-/// The line of a report, and the line of a certificate that stands beside it; each ends with a line feed.
+/// The line of a report, and the line of a certificate that stands beside it; each ends with a line feed. With them stands what the
+/// report's line says.
 #[derive(Drop)]
 pub struct Lines {
     pub report: Vec<u8>,
     pub certificate: Vec<u8>,
+    pub said: Report,
 }
 
 /// What the exact certificate says of a verdict: the start of the motions that end at the least place, or the verdict's two places.
@@ -119,10 +121,12 @@ pub fn both_lines(
 {
     let verdict = set.step(instant)?;
     let line = exact_line(alloc, set, index, verdict)?;
-    let report = report_line(alloc, &record_of(index, instant, verdict))?;
+    let said = record_of(index, instant, verdict);
+    let report = report_line(alloc, &said)?;
     let certificate = cert_line(alloc, &line)?;
     Ok(Lines {
         report,
         certificate,
+        said,
     })
 }

@@ -1,5 +1,5 @@
-//! Writing a report on out and its exact certificate into a file, line after line.
-ghost use Rattle.std.specs.Prelude.{◌≡◌, ◌+◌, ◌≤◌, ◌^◌, ◌∷◌, [], ◌<ℤ◌, ◌⊎◌, List, length, Some, None, IfErr, IfSome, OnOk, OnErr, IsTrue, unsigned_abs};
+//! Writing a report on out and its exact certificate into a file, line after line, and telling taps of each.
+ghost use Rattle.std.specs.Prelude.{map, IsErrOf, ◌≡◌, ◌+◌, ◌≤◌, ◌^◌, ◌∷◌, [], ◌<ℤ◌, ◌⊎◌, List, length, Some, None, IfErr, IfSome, OnOk, IsTrue, unsigned_abs};
 ghost use Rattle.shelf_traits.specs.Shelf.{IsWriter, WritesOn};
 ghost use Rattle.wheel_types.specs.declared.instant.Instant.{Instant as Moment};
 ghost use Rattle.wheel_types.specs.declared.verdict.Verdict.{Verdict as Judgement};
@@ -9,13 +9,16 @@ ghost use Rattle.plain_motion.specs.Sets.{StandsFor, wheel_of, last_of};
 ghost use Rattle.pair_certificate.specs.declared.line.CertLine.{CertLine as Record};
 ghost use Rattle.certificate_checker.specs.Exact.{AreExactLines};
 ghost use Rattle.run_ends.specs.Serving.{stream};
+ghost use Rattle.tap_board.specs.Marks.{mark_of};
 ghost use Rattle.certified_replay.specs.Puts.{StoppedBoth, GetsTexts, GetsCut, GetsLines, GetsCutLines, GetsBoth, GetsBothFront, stand_beside};
 
 use crate::lines::{Lines, both_lines};
+use crate::whole::{put_beside, put_line};
 use plain_motion::PlainSet;
-use run_ends::{Cause, put, put_piece};
+use run_ends::Cause;
 use shelf_io::{Shelf, Sink};
 use std::alloc::Global;
+use tap_board::{Board, Tap};
 use wheel_types::{Instant, Memory};
 
 /// Writes a line of a report on out, and then the line beside it into the file of a slot.
@@ -31,21 +34,23 @@ fn put_lines<S: Shelf, O: Sink>(
     ensures steady { IsTrue (O.steady out.old) → IsTrue (O.steady out.new) }
     ensures ok { OnOk result (GetsTexts (S.view shelf.old) (S.view shelf.new) slot (O.taken out.old) (O.taken out.new) lines.now.report.items lines.now.certificate.items) }
     ensures quiet { OnOk result ((O.faults out.new ≡ O.faults out.old) × ((S.view shelf.new).faults_out ≡ (S.view shelf.old).faults_out)) }
-    ensures err { OnErr result (GetsCut (S.view shelf.old) (S.view shelf.new) slot (O.taken out.old) (O.taken out.new) (stand_beside lines.now.report.items lines.now.certificate.items)) }
+    ensures err { IfErr result (λ e. GetsCut e (S.view shelf.old) (S.view shelf.new) slot (O.taken out.old) (O.taken out.new)
+        (stand_beside lines.now.report.items lines.now.certificate.items (mark_of lines.now.said.verdict))) }
     ensures stopped { IfErr result (StoppedBoth (S.view shelf.old) (S.view shelf.new)
         (stream (O.faults out.old) (O.taken out.old) (O.steady out.old)) (stream (O.faults out.new) (O.taken out.new) (O.steady out.new))) }
 {
-    put(out, &lines.report)?;
-    put_piece(shelf, slot, &lines.certificate)
+    put_line(out, &lines.report)?;
+    put_beside(shelf, slot, &lines.certificate)
 }
 
-/// Takes one more instant, and writes its two lines.
+/// Takes one more instant, writes its two lines, and tells the board.
 fn put_instant<S: Shelf, O: Sink>(
     alloc: Global,
     shelf: &mut S,
     slot: u32,
     out: &mut O,
     set: &mut PlainSet,
+    board: &mut Board,
     index: u64,
     instant: &Instant,
 ) -> Result<(), Cause>
@@ -60,11 +65,15 @@ fn put_instant<S: Shelf, O: Sink>(
     ensures quiet { OnOk result ((O.faults out.new ≡ O.faults out.old) × ((S.view shelf.new).faults_out ≡ (S.view shelf.old).faults_out)) }
     ensures ok { OnOk result ((past : List Moment) (verdicts : List Judgement) (certificate : List Record) (window : List Moment)
         → StandsFor set.old past verdicts → AreExactLines (wheel_of set.old) past verdicts certificate window → index ≡ length past + 1
-        → GetsLines (wheel_of set.old) set.new (S.view shelf.old) (S.view shelf.new) slot (O.taken out.old) (O.taken out.new) instant.now past verdicts certificate) }
-    ensures err { OnErr result ((past : List Moment) (verdicts : List Judgement) (certificate : List Record) (window : List Moment)
+        → GetsLines (wheel_of set.old) set.new (S.view shelf.old) (S.view shelf.new) slot (O.taken out.old) (O.taken out.new)
+        (map (λ tap. (⟦<dyn Tap as Tap>⟧ tap.vtable).meaning tap.value) board.old.taps.items)
+        (map (λ tap. (⟦<dyn Tap as Tap>⟧ tap.vtable).meaning tap.value) board.new.taps.items) instant.now past verdicts certificate) }
+    ensures untold { IsErrOf result Cause.WriteFault → (map (λ tap. (⟦<dyn Tap as Tap>⟧ tap.vtable).meaning tap.value) board.new.taps.items)
+        ≡ (map (λ tap. (⟦<dyn Tap as Tap>⟧ tap.vtable).meaning tap.value) board.old.taps.items) }
+    ensures err { IfErr result (λ e. (past : List Moment) (verdicts : List Judgement) (certificate : List Record) (window : List Moment)
         → StandsFor set.old past verdicts → AreExactLines (wheel_of set.old) past verdicts certificate window → index ≡ length past + 1
-        → GetsTexts (S.view shelf.old) (S.view shelf.new) slot (O.taken out.old) (O.taken out.new) [] []
-        ⊎ GetsCutLines (wheel_of set.old) set.new (S.view shelf.old) (S.view shelf.new) slot (O.taken out.old) (O.taken out.new) instant.now past verdicts certificate) }
+        → ((e ≡ Cause.Memory) × GetsTexts (S.view shelf.old) (S.view shelf.new) slot (O.taken out.old) (O.taken out.new) [] [])
+        ⊎ GetsCutLines e (wheel_of set.old) set.new (S.view shelf.old) (S.view shelf.new) slot (O.taken out.old) (O.taken out.new) instant.now past verdicts certificate) }
     ensures stopped { IfErr result (StoppedBoth (S.view shelf.old) (S.view shelf.new)
         (stream (O.faults out.old) (O.taken out.old) (O.steady out.old)) (stream (O.faults out.new) (O.taken out.new) (O.steady out.new))) }
 {
@@ -72,7 +81,11 @@ fn put_instant<S: Shelf, O: Sink>(
         Ok(lines) => lines,
         Err(Memory) => return Err(Cause::Memory),
     };
-    put_lines(shelf, slot, out, &lines)
+    put_lines(shelf, slot, out, &lines)?;
+    match board.tell(&lines.said) {
+        Ok(()) => Ok(()),
+        Err(Memory) => Err(Cause::Memory),
+    }
 }
 
 /// Writes the report of instants whose times rise on out, and its exact certificate into the file of a slot: after each line the one
@@ -83,6 +96,7 @@ pub fn put_both<S: Shelf, O: Sink>(
     slot: u32,
     out: &mut O,
     set: &mut PlainSet,
+    board: &mut Board,
     instants: &[Instant],
 ) -> Result<(), Cause>
     requires writer { IsWriter (S.view shelf.old) slot }
@@ -95,13 +109,26 @@ pub fn put_both<S: Shelf, O: Sink>(
     ensures later { O.faults out.old ≤ O.faults out.new }
     ensures steady { IsTrue (O.steady out.old) → IsTrue (O.steady out.new) }
     ensures quiet { OnOk result ((O.faults out.new ≡ O.faults out.old) × ((S.view shelf.new).faults_out ≡ (S.view shelf.old).faults_out)) }
-    ensures ok { OnOk result (GetsBoth (wheel_of set.old) instants.now (S.view shelf.old) (S.view shelf.new) slot (O.taken out.old) (O.taken out.new)) }
-    ensures err { OnErr result (GetsBothFront (wheel_of set.old) instants.now (S.view shelf.old) (S.view shelf.new) slot (O.taken out.old) (O.taken out.new)) }
+    ensures ok { OnOk result (GetsBoth (wheel_of set.old) instants.now (S.view shelf.old) (S.view shelf.new) slot (O.taken out.old) (O.taken out.new)
+        (map (λ tap. (⟦<dyn Tap as Tap>⟧ tap.vtable).meaning tap.value) board.old.taps.items)
+        (map (λ tap. (⟦<dyn Tap as Tap>⟧ tap.vtable).meaning tap.value) board.new.taps.items)) }
+    ensures err { IfErr result (λ e. GetsBothFront e (wheel_of set.old) instants.now (S.view shelf.old) (S.view shelf.new) slot (O.taken out.old) (O.taken out.new)
+        (map (λ tap. (⟦<dyn Tap as Tap>⟧ tap.vtable).meaning tap.value) board.old.taps.items)
+        (map (λ tap. (⟦<dyn Tap as Tap>⟧ tap.vtable).meaning tap.value) board.new.taps.items)) }
     ensures stopped { IfErr result (StoppedBoth (S.view shelf.old) (S.view shelf.new)
         (stream (O.faults out.old) (O.taken out.old) (O.steady out.old)) (stream (O.faults out.new) (O.taken out.new) (O.steady out.new))) }
 {
     for (number, instant) in instants.iter().enumerate() {
-        put_instant(alloc, shelf, slot, out, set, number as u64 + 1, instant)?;
+        put_instant(
+            alloc,
+            shelf,
+            slot,
+            out,
+            set,
+            board,
+            number as u64 + 1,
+            instant,
+        )?;
     }
     Ok(())
 }

@@ -1,4 +1,4 @@
-use Rattle.std.proofs.Common.{refl, ◌≡◌, ◌∙◌, List, Some, slice_get, sym, subst, arith, length}
+use Rattle.std.proofs.Common.{refl, ap, Err, ◌≡◌, ◌∙◌, List, Some, slice_get, sym, subst, arith, length}
 use Rattle.std.proofs.lemmas.Result.{err_from_is_err_and}
 use Rattle.std.proofs.KnownBytes.{Appends-nil}
 use Rattle.shelf_traits.specs.declared.shelf.Way.{Way}
@@ -9,7 +9,7 @@ use Rattle.certified_replay.proofs.put.put_both.Goals as goal
 
 pub loop-number-init : goal.loop-number-init
 loop-number-init g c = record {
-  put = none_put c.args.set.now _ c.args.slot _ c.args.instants.now c.requires.stands c.requires.fresh (Appends-nil _);
+  put = none_put c.args.set.now _ c.args.slot _ _ c.args.instants.now c.requires.stands c.requires.fresh (Appends-nil _);
   keeps = unwritten _ c.args.slot;
   steady = λ h. h;
   same = refl;
@@ -25,9 +25,9 @@ put_instant-requires-clause-later g c = later_than_last c.args.instants.now c.lo
 pub returns-in_err-put_instant-clause-err : goal.returns-in_err-put_instant-clause-err
 returns-in_err-put_instant-clause-err g c =
     let p = err_from_is_err_and c.from_residual.result c.from_residual.ensures.1 in
-    rw (p.1)
-    (stopped c.args.set.now c.loop-number.set c.put_instant.new.set _ _ _ c.args.slot _ _ _ c.args.instants.now c.loop-number.number _ c.requires.wheel c.requires.rising c.loop-number-test.true c.index-instants-number.is c.loop-number.invariant.keeps
-    c.loop-number.invariant.put c.in_err-put_instant.ensures.err)
+    rw (p.1, p.2)
+    (stopped _ c.args.set.now c.loop-number.set c.put_instant.new.set _ _ _ c.args.slot _ _ _ _ _ _ c.args.instants.now c.loop-number.number _ c.requires.wheel c.requires.rising c.loop-number-test.true c.index-instants-number.is c.loop-number.invariant.keeps
+    c.loop-number.invariant.put (λ is. c.in_err-put_instant.ensures.untold (ap Err is)) c.in_err-put_instant.ensures.err)
 
 pub returns-in_err-put_instant-clause-stopped : goal.returns-in_err-put_instant-clause-stopped
 returns-in_err-put_instant-clause-stopped g c =
@@ -36,7 +36,7 @@ returns-in_err-put_instant-clause-stopped g c =
 
 pub loop-number-preserved : goal.loop-number-preserved
 loop-number-preserved g c = record {
-  put = next_put c.args.set.now c.loop-number.set c.put_instant.new.set _ _ _ c.args.slot _ _ _ c.args.instants.now c.loop-number.number _ c.loop-number-test.true c.index-instants-number.is c.loop-number.invariant.keeps
+  put = next_put c.args.set.now c.loop-number.set c.put_instant.new.set _ _ _ c.args.slot _ _ _ _ _ _ c.args.instants.now c.loop-number.number _ c.loop-number-test.true c.index-instants-number.is c.loop-number.invariant.keeps
       c.loop-number.invariant.put c.put_instant.ensures.wheel c.in_ok-put_instant.ensures.last c.in_ok-put_instant.ensures.ok;
   keeps = writes_on _ _ _ _ c.loop-number.invariant.keeps c.put_instant.ensures.keeps;
   steady = λ h. c.in_ok-put_instant.ensures.steady (c.loop-number.invariant.steady h);
@@ -46,5 +46,5 @@ loop-number-preserved g c = record {
 
 pub returns-clause-ok : goal.returns-clause-ok
 returns-clause-ok g c =
-    all_put c.args.set.now c.loop-number.set _ _ c.args.slot _ _ c.args.instants.now c.requires.wheel c.requires.rising
-    (let e : c.loop-number.number ≡ length c.args.instants.now = omega arith in subst (HasPut c.args.set.now c.loop-number.set _ _ c.args.slot _ _ c.args.instants.now) e c.loop-number.invariant.put)
+    all_put c.args.set.now c.loop-number.set _ _ c.args.slot _ _ _ _ c.args.instants.now c.requires.wheel c.requires.rising
+    (let e : c.loop-number.number ≡ length c.args.instants.now = omega arith in subst (HasPut c.args.set.now c.loop-number.set _ _ c.args.slot _ _ _ _ c.args.instants.now) e c.loop-number.invariant.put)

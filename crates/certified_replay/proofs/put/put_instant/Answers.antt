@@ -1,14 +1,19 @@
 use Rattle.std.proofs.Common.{inr}
-use Rattle.std.proofs.lemmas.Result.{on_ok_weaker, on_err_weaker}
-use Rattle.certified_replay.proofs.Putting.{lines_put, lines_cut}
+use Rattle.std.proofs.lemmas.Result.{err_from_is_err_and}
+use Rattle.run_ends.specs.declared.cause.Cause.TheVariants as cause
+use Rattle.certified_replay.proofs.Putting.{lines_put, lines_cut, cut_past}
 use Rattle.certified_replay.proofs.put.put_instant.Goals as goal
 
-pub returns-clause-ok : goal.returns-clause-ok
-returns-clause-ok g c =
-    on_ok_weaker c.put_lines.result
-    (λ texts past verdicts certificate window s x n. lines_put _ _ _ _ _ _ _ _ past verdicts certificate c.in-Ok.lines (c.in-Ok.ensures.adds past verdicts certificate window s x n) texts) c.put_lines.ensures.ok
+pub returns-in-Ok-tell-clause-ok : goal.returns-in-Ok-tell-clause-ok
+returns-in-Ok-tell-clause-ok g c = λ past verdicts certificate window s x n.
+    lines_put _ _ _ _ _ _ _ _ _ _ past verdicts certificate c.in-Ok.lines (c.in-Ok.ensures.adds past verdicts certificate window s x n) c.in_ok-put_lines.ensures.ok c.in-Ok-tell.ensures.told
+
+pub returns-in_err-put_lines-clause-err : goal.returns-in_err-put_lines-clause-err
+returns-in_err-put_lines-clause-err g c =
+    let p = err_from_is_err_and c.from_residual.result c.from_residual.ensures.1 in
+    rw (p.1, p.2)
+    (λ past verdicts certificate window s x n. inr (lines_cut _ _ _ _ _ _ _ _ _ past verdicts certificate c.in-Ok.lines (c.in-Ok.ensures.adds past verdicts certificate window s x n) c.in_err-put_lines.ensures.err))
 
 pub returns-clause-err : goal.returns-clause-err
-returns-clause-err g c =
-    on_err_weaker c.put_lines.result
-    (λ cut past verdicts certificate window s x n. inr (lines_cut _ _ _ _ _ _ _ _ past verdicts certificate c.in-Ok.lines (c.in-Ok.ensures.adds past verdicts certificate window s x n) cut)) c.put_lines.ensures.err
+returns-clause-err g c = λ past verdicts certificate window s x n.
+    inr (lines_cut cause.Memory _ _ _ _ _ _ _ _ past verdicts certificate c.in-Ok.lines (c.in-Ok.ensures.adds past verdicts certificate window s x n) (cut_past _ _ _ _ _ _ _ _ c.in_ok-put_lines.ensures.ok))

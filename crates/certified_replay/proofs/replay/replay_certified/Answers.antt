@@ -1,16 +1,24 @@
-use Rattle.std.proofs.lemmas.Result.{err_from_is_err_and}
 use Rattle.run_ends.proofs.Serving.{stops, goes_on}
-use Rattle.certified_replay.proofs.Certifying.{over_before, served_as}
+use Rattle.run_ends.proofs.Tapping.{served_as}
+use Rattle.certified_replay.proofs.Certifying.{over_before}
+use Rattle.certified_replay.proofs.Shutting.{told_work, untold, not_opened}
 use Rattle.certified_replay.proofs.replay.replay_certified.Goals as goal
 
-pub returns-in_err-model : goal.returns-in_err-model
-returns-in_err-model g c =
-    let p = err_from_is_err_and c.from_residual.result c.from_residual.ensures.1 in
-    rw (p.1, p.2) (stops _ _ _ _ _ _ _ _ _ _ c.in_err-model.ensures.loads)
+pub returns-in-Err : goal.returns-in-Err
+returns-in-Err g c = untold _ _ _ _ _ _ _ _ _ c.without_tails.ensures.end c.without_tails.ensures.tails (stops _ _ _ _ _ _ _ _ _ _ c.in-Err.ensures.loads)
+
+pub returns-in-Err-open_file : goal.returns-in-Err-open_file
+returns-in-Err-open_file g c =
+    let w = c.in-Ok.model.wheel.parts in
+    let first = c.in-Ok.ensures.loads in
+    untold _ _ _ _ _ _ _ _ _ c.without_tails-in-Err-open_file.ensures.end c.without_tails-in-Err-open_file.ensures.tails
+    (goes_on _ _ _ _ _ _ _ _ w _ _ _ _ _ first.0 first.1
+    (served_as _ _ _ _ _ _ _ _ _ (λ work r. over_before _ _ _ _ w c.args.capture.now c.args.cert.now _ work first.0.touches r) (not_opened _ _ _ _ _ _ _ c.in-Err-open_file.ensures.not_opened)))
 
 pub returns : goal.returns
 returns g c =
-    let w = c.in_ok-model.model.wheel.parts in
-    let first = c.in_ok-model.ensures.loads in
+    let w = c.in-Ok.model.wheel.parts in
+    let first = c.in-Ok.ensures.loads in
     goes_on _ _ _ _ _ _ _ _ w _ _ _ _ _ first.0 first.1
-    (served_as _ _ _ _ _ _ _ _ _ (λ work r. over_before _ _ _ w c.args.capture.now c.args.cert.now _ work first.0.touches r) c.replay_over.ensures)
+    (served_as _ _ _ _ _ _ _ _ _ (λ work r. over_before _ _ _ _ w c.args.capture.now c.args.cert.now _ work first.0.touches r)
+    (told_work _ _ c.args.capture.now _ _ _ _ _ _ _ _ _ _ c.new-board.ensures (c.replay_past-end.ensures _ c.args.capture.now c.in-Ok-open_file.ensures.opened c.requires.apart) c.close.ensures))
