@@ -7,7 +7,9 @@
 //! what it has before, and the file beside the program that has the wheel's image. A blank stands between two words, `~` for a blank in a word, and `�` in a file for
 //! the byte 255, which no text has. `long | WHEEL | CAPTURE | 9 × ROWS` is a replay of a capture that goes on with nine copies of rows,
 //! in which `%` stands for the copy's number from 0: how many lines the report has, and the last of them. `certified | WORDS | FAILING |
-//! WHEEL | CAPTURE` is a replay that makes the file `cert`: what out got, what that file has, and how it ended.
+//! WHEEL | CAPTURE` is a replay that makes the file `cert`: what out got, what that file has, and how it ended. `taps | TAPS | WORDS |
+//! FAILING | WHEEL | CAPTURE` is a run with taps, where a call fails or notes is a stream that has room for so many bytes: `tally`, `first`,
+//! `stop N`, `memory N`, whose take wants memory from its report N on, and `close memory`, whose finish does; a comma stands between two.
 #![tactic(auto)]
 
 mod certificates;
@@ -18,6 +20,8 @@ mod long;
 mod memory;
 mod prefixes;
 mod streams;
+mod taps;
+mod wanting;
 
 use certificates::told_of_certified;
 use checks::told_of_check;
@@ -30,6 +34,7 @@ use rows::{Tells, check};
 use std::alloc::{AllocError, Global};
 use std::io;
 use streams::told_of_stream;
+use taps::told_of_taps;
 
 /// Tells what a run leaves: what out got, the status, and what notes got.
 #[derive(Drop)]
@@ -61,6 +66,10 @@ impl Tells for Runs<'_> {
             }
             [words, failing, wheel, before, wanted] => {
                 told_of_image(self.rt, words, failing, [wheel, before, wanted])
+            }
+            [kind, taps, words, failing, wheel, capture] if kind.as_str() == "taps" => {
+                let files = (bytes_of(alloc, wheel)?, bytes_of(alloc, capture)?);
+                told_of_taps(alloc, taps, words, failing, (&files.0, &files.1))
             }
             [words, failing, wheel, capture, report, cert] => {
                 told_of_check(alloc, words, failing, [wheel, capture, report, cert])

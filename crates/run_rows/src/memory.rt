@@ -67,29 +67,33 @@ pub struct Outcome {
     pub notes: MemSink,
 }
 
-/// Runs words over the files `wheel` and `capture`, where a call fails.
+/// Runs words over the files `wheel` and `capture` with these taps, where a call fails.
+pub fn outcome_with(
+    alloc: Global,
+    words: &str,
+    failing: &str,
+    files: (&[u8], &[u8]),
+    taps: Vec<Box<dyn Tap>>,
+) -> Result<Outcome, AllocError> {
+    let mut shelf = shelf_of(alloc, files, fails_of(alloc, failing, "shelf")?)?;
+    let mut out = MemSink::new(alloc, fails_of(alloc, failing, "out")?);
+    let mut notes = MemSink::new(alloc, fails_of(alloc, failing, "notes")?);
+    let words = words_of(alloc, words)?;
+    let status = run(alloc, &words, &mut shelf, &mut out, &mut notes, taps);
+    Ok(Outcome { status, out, notes })
+}
+
+/// Runs words over the files `wheel` and `capture` without taps, where a call fails.
 pub fn outcome_of(
     alloc: Global,
     words: &str,
     failing: &str,
     files: (&[u8], &[u8]),
 ) -> Result<Outcome, AllocError> {
-    let mut shelf = shelf_of(alloc, files, fails_of(alloc, failing, "shelf")?)?;
-    let mut out = MemSink::new(alloc, fails_of(alloc, failing, "out")?);
-    let mut notes = MemSink::new(alloc, fails_of(alloc, failing, "notes")?);
-    let words = words_of(alloc, words)?;
-    let status = run(
-        alloc,
-        &words,
-        &mut shelf,
-        &mut out,
-        &mut notes,
-        no_taps(alloc),
-    );
-    Ok(Outcome { status, out, notes })
+    outcome_with(alloc, words, failing, files, no_taps(alloc))
 }
 
-/// The status of a run, and the line that notes got, if there is one.
+/// The status of a run, and what notes got.
 pub fn ending(alloc: Global, status: Status, notes: &MemSink) -> Result<String, AllocError> {
     let line = String::from_utf8_lossy(alloc, notes.bytes())?;
     let blank = if line.is_empty() { "" } else { " " };

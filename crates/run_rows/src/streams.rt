@@ -8,9 +8,24 @@ use wheelsync::run;
 
 /// A stream that takes so many bytes in all.
 #[derive(Drop)]
-struct Narrow {
+pub struct Narrow {
     bytes: Vec<u8>,
     room: u64,
+}
+
+impl Narrow {
+    /// One that takes so many bytes.
+    pub fn new(alloc: Global, room: u64) -> Narrow {
+        Narrow {
+            bytes: Vec::new(alloc),
+            room,
+        }
+    }
+
+    /// The bytes that it took.
+    pub fn bytes(&self) -> &[u8] {
+        &self.bytes
+    }
 }
 
 impl Write for Narrow {
@@ -41,10 +56,7 @@ pub fn told_of_stream(
         return Ok(None);
     };
     let mut shelf = shelf_of(alloc, files, Vec::new(alloc))?;
-    let mut stream = Narrow {
-        bytes: Vec::new(alloc),
-        room,
-    };
+    let mut stream = Narrow::new(alloc, room);
     let mut out = StdSink::new(alloc, &mut stream, false);
     let mut notes = MemSink::new(alloc, Vec::new(alloc));
     let words = words_of(alloc, words)?;
@@ -57,7 +69,7 @@ pub fn told_of_stream(
         no_taps(alloc),
     );
     drop(out);
-    let text = String::from_utf8_lossy(alloc, &stream.bytes)?;
+    let text = String::from_utf8_lossy(alloc, stream.bytes())?;
     let end = ending(alloc, status, &notes)?;
     Ok(Some(format!(in alloc; "{text} / {end}")?))
 }

@@ -1,5 +1,5 @@
 -- What follows of a run from what its work may come to.
-use Rattle.std.proofs.Common.{◌≡◌, ℕ, ◌⊎◌, inl, inr, List, Option, None, Some, IfSome, Result, Ok, Err, refl, sym, ◌∙◌, ap}
+use Rattle.std.proofs.Common.{◌≡◌, ℕ, ◌⊎◌, inl, inr, List, Option, None, Some, IfSome, Result, Ok, Err, refl, sym, ◌∙◌, ap, subst, ◌≤◌}
 use Rattle.std.specs.Prelude.{IsTrue, option_and_then}
 use Rattle.shelf_traits.specs.Count.{Rose}
 use Rattle.shelf_traits.specs.Shelf.{View}
@@ -16,8 +16,12 @@ use Rattle.run_ends.specs.declared.status.Status.{Status}
 use Rattle.run_ends.specs.declared.status.Status.TheVariants as status
 use Rattle.run_ends.specs.Statuses.{status_of}
 use Rattle.run_ends.specs.Finishing.{HasNoted, FailedNote, notes_text}
-use Rattle.run_ends.specs.Works.{Work, Reads, Judges, Writes, StopsWrite}
-use Rattle.run_ends.specs.Serving.{Stream, Ran, NoneFailed, WentOut}
+use Rattle.run_ends.specs.Works.{Work, Judges, Writes, StopsOpen, StopsRead, StopsWrite}
+use Rattle.run_ends.specs.Lines.{WritesLines}
+use Rattle.run_ends.specs.Stages.{Closes}
+use Rattle.capture_core.specs.declared.capture.Capture.{Capture}
+use Rattle.tap_board.specs.Meanings.{Meaning, tails_after}
+use Rattle.run_ends.specs.Serving.{Stream, Served, Ran, NoneFailed, WentOut}
 use Rattle.run_files.specs.Causes.{FileGives, ModelGives, SourceGives, ended_by}
 use Rattle.run_files.specs.Files.{HasPlacedWheel, HasTable}
 use Rattle.wheelsync.specs.Complete.{AreReady, IsDenied, IsDue}
@@ -27,9 +31,9 @@ use Rattle.run_files.proofs.Ready.{model_gives_none, file_gives_none, source_giv
 use Rattle.named_captures.specs.Captures.{HasNamedCapture}
 use Rattle.named_captures.proofs.FileNames.{file_has_one_capture}
 use Rattle.run_ends.proofs.Noting.{due_or_memory}
-use Rattle.run_ends.proofs.Completing.{reads_end, judges_end, writes_end, hands_end, reads_ready, judges_ready, open_not_usage, read_not_usage, judge_not_usage, write_not_usage}
+use Rattle.run_ends.proofs.Completing.{reads_end, judges_end, writes_end, opens_end, closes_end, takes_end, lines_end, hands_end, reads_ready, judges_ready, open_not_usage, read_not_usage, judge_not_usage, write_not_usage}
 use Rattle.certified_replay.proofs.Ending.{certified_ends, certified_not_usage}
-use Rattle.wheelsync.specs.Replay.{IsReplay, IsReplayed}
+use Rattle.wheelsync.specs.Replay.{IsReplay, IsReplayed, IsReplayOver, IsReplayPast, IsReported}
 use Rattle.wheelsync.specs.Import.{IsImport}
 use Rattle.table_commands.specs.States.{HasFewStates, FamilyGives}
 use Rattle.compile_command.specs.Compile.{IsCompile}
@@ -37,7 +41,7 @@ use Rattle.compile_command.proofs.Compiling.{compile_ends, compile_not_usage}
 use Rattle.table_commands.specs.Size.{IsSize, IsSized}
 use Rattle.table_commands.proofs.OneFamily.{family_gives_none}
 use Rattle.wheelsync.specs.Commands.{IsWork}
-use Rattle.wheelsync.proofs.Endings.{IsReported, IsSlotsLine}
+use Rattle.wheelsync.proofs.Endings.{IsSlotsLine}
 
 -- the work is done, or wanted memory, or a write failed
 abbrev pub IsSettled : Result Done Cause → Type 0
@@ -52,21 +56,41 @@ settled_stop (cause.Refused r) s = absurd s
 settled_stop (cause.Limit l) s = absurd s
 
 -- over accepted files and a steady shelf
-replay_settles : (v : View) (m c : List ℕ) (o : Options) (work : Work) → IsTrue v.tells → IsTrue v.steady → AreReady v.file (Replay m c None o) → IsReplay v m c o work → IsSettled work.end
-replay_settles v m c o work told steady (w, (k, a)) r =
-    reads_ready v m (ModelGives v.file m) (HasPlacedWheel v.file m) (λ w. Reads v c (FileGives v.file c) (HasNamedCapture v.file c w o) (λ k. Writes (IsReported w k))) IsSettled
+replay_settles : (v : View) (tails : List ℕ → List ℕ) (m c : List ℕ) (o : Options) (work : Work) → IsTrue v.tells → IsTrue v.steady → AreReady v.file (Replay m c None o) → IsReplay v tails m c o work → IsSettled work.end
+replay_settles v tails m c o work told steady (w, (k, a)) r =
+    reads_ready v m (ModelGives v.file m) (HasPlacedWheel v.file m) (λ w. IsReplayOver v tails w c o) IsSettled
     a.files.model_file.wheel.bytes w work told steady a.files.model_file.wheel.holds.there (model_gives_none v.file m w a.files.model_file)
     (λ u h. file_has_one_wheel v.file m u w h.wheel a.files.model_file.wheel) (inr (inl refl))
     (λ rest n.
-    reads_ready v c (FileGives v.file c) (HasNamedCapture v.file c w o) (λ k. Writes (IsReported w k)) IsSettled a.files.capture_file.bytes k rest told steady a.files.capture_file.holds.there
-    (file_gives_none v.file c a.files.capture_file.bytes a.files.capture_file.holds) (λ d h. file_has_one_capture v.file c w o d k h a.files.capture_file) (inr (inl refl))
-    (λ last p. writes_end (IsReported w k) IsSettled last (λ text end d. inl (d.1 ∙ ap ended_by a.clean)) settled_stop p) n)
+    opens_end v c (Closes tails (IsReplayPast v w c o)) IsSettled rest opening
+    (λ more q.
+    closes_end tails (IsReplayPast v w c o) IsSettled more
+    (λ last p.
+    takes_end v (FileGives v.file c) (HasNamedCapture v.file c w o) (λ d. WritesLines (IsReported w d)) IsSettled last reading
+    (λ d h t. lines_end (IsReported w d) IsSettled last (λ all end g. inl (g.1 ∙ ap ended_by (ap (λ (e : Capture). e.end) (file_has_one_capture v.file c w o d k (h told) a.files.capture_file) ∙ a.clean))) settled_stop t) p)
+    (inr (inl refl)) q) n)
     r
+  where
+    opening : (e : Cause) → StopsOpen v c e → IsSettled (Err e)
+    opening cause.ReadFault s = let gone : Some a.files.capture_file.bytes ≡ None = sym a.files.capture_file.holds.there ∙ s told steady in absurd (cc)
+    opening cause.Memory s = inr (inl refl)
+    opening cause.Usage s = absurd s
+    opening (cause.Refused x) s = absurd s
+    opening (cause.Limit l) s = absurd s
+    opening cause.WriteFault s = absurd s
 
-replayed_settles : (v : View) (m c : List ℕ) (f : Option (List ℕ)) (o : Options) (work : Work) → IsTrue v.tells → IsTrue v.steady → AreReady v.file (Replay m c f o) → IsReplayed v m c f o work → IsSettled work.end
-replayed_settles v m c None o work told steady ready r = replay_settles v m c o work told steady ready r
-replayed_settles v m c (Some f) o work told steady (w, (k, a)) r =
-    certified_ends IsSettled v m c f o w k work told steady a.files.model_file a.files.capture_file (inl (ap ended_by a.clean)) (inr (inl refl)) (inr (inr refl)) r
+    reading : (e : Cause) → StopsRead v (FileGives v.file c) e → IsSettled (Err e)
+    reading cause.ReadFault s = absurd (s steady)
+    reading cause.Memory s = inr (inl refl)
+    reading cause.Usage s = absurd s
+    reading (cause.Refused x) s = absurd (file_gives_none v.file c a.files.capture_file.bytes a.files.capture_file.holds (cause.Refused x) (s told))
+    reading (cause.Limit l) s = absurd (file_gives_none v.file c a.files.capture_file.bytes a.files.capture_file.holds (cause.Limit l) (s told))
+    reading cause.WriteFault s = absurd s
+
+replayed_settles : (v : View) (tails : List ℕ → List ℕ) (m c : List ℕ) (f : Option (List ℕ)) (o : Options) (work : Work) → IsTrue v.tells → IsTrue v.steady → AreReady v.file (Replay m c f o) → IsReplayed v tails m c f o work → IsSettled work.end
+replayed_settles v tails m c None o work told steady ready r = replay_settles v tails m c o work told steady ready r
+replayed_settles v tails m c (Some f) o work told steady (w, (k, a)) r =
+    certified_ends IsSettled v tails m c f o w k work told steady a.files.model_file a.files.capture_file (inl (ap ended_by a.clean)) (inr (inl refl)) (inr (inr refl)) r
 
 import_settles : (v : View) (source name : List ℕ) (work : Work) → IsTrue v.tells → IsTrue v.steady → AreReady v.file (Import source name) → IsImport v source name work → IsSettled work.end
 import_settles v source name work told steady (slots, h) r =
@@ -84,25 +108,25 @@ size_settles v wheel work told steady (w, h) r =
     (λ p. writes_end (IsSized w) IsSettled rest (λ text end d. inl d.1.1.1) settled_stop p) n)
     r
 
-settles : (v : View) (order : Order) (work : Work) → IsTrue v.tells → IsTrue v.steady → AreReady v.file order → IsWork v (Some order) work → IsSettled work.end
-settles v (Replay m c f o) work told steady ready r = hands_end (IsReplayed v m c f o) IsSettled work (λ rest n. replayed_settles v m c f o rest told steady ready n) (inr (inr refl)) r
-settles v (Import source name) work told steady ready r = hands_end (IsImport v source name) IsSettled work (λ rest n. import_settles v source name rest told steady ready n) (inr (inr refl)) r
-settles v (Size wheel) work told steady ready r = hands_end (IsSize v wheel) IsSettled work (λ rest n. size_settles v wheel rest told steady ready n) (inr (inr refl)) r
-settles v (Compile wheel image) work told steady (w, h) r =
+settles : (v : View) (taps : List Meaning) (order : Order) (work : Work) → IsTrue v.tells → IsTrue v.steady → AreReady v.file order → IsWork v taps (Some order) work → IsSettled work.end
+settles v taps (Replay m c f o) work told steady ready r = hands_end (IsReplayed v (tails_after taps) m c f o) IsSettled work (λ rest n. replayed_settles v (tails_after taps) m c f o rest told steady ready n) (inr (inr refl)) r
+settles v taps (Import source name) work told steady ready r = hands_end (IsImport v source name) IsSettled work (λ rest n. import_settles v source name rest told steady ready n) (inr (inr refl)) r
+settles v taps (Size wheel) work told steady ready r = hands_end (IsSize v wheel) IsSettled work (λ rest n. size_settles v wheel rest told steady ready n) (inr (inr refl)) r
+settles v taps (Compile wheel image) work told steady (w, h) r =
     hands_end (IsCompile v wheel image) IsSettled work
     (λ rest n. compile_ends IsSettled v wheel image w rest told steady h.wheel_file h.few (inl refl) (inr (inl refl)) (inr (inr refl)) n) (inr (inr refl)) r
-settles v (Check wheel capture report cert o) work told steady (w, (c, (rs, (cs, (h, valid))))) r =
+settles v taps (Check wheel capture report cert o) work told steady (w, (c, (rs, (cs, (h, valid))))) r =
     hands_end (IsCheck v wheel capture report cert o) IsSettled work
     (λ rest n. check_ends done.Whole v wheel capture report cert o w c rs cs rest told steady h (valid_ends w c rs cs valid) n) (inr (inr refl)) r
 
-denied : (v : View) (order : Order) (work : Work) → IsTrue v.tells → IsTrue v.steady → IsDenied v.file order → IsWork v (Some order) work → EndsIn done.No work.end
-denied v (Check wheel capture report cert o) work told steady (w, (c, (rs, (cs, (h, not_valid))))) r =
+denied : (v : View) (taps : List Meaning) (order : Order) (work : Work) → IsTrue v.tells → IsTrue v.steady → IsDenied v.file order → IsWork v taps (Some order) work → EndsIn done.No work.end
+denied v taps (Check wheel capture report cert o) work told steady (w, (c, (rs, (cs, (h, not_valid))))) r =
     hands_end (IsCheck v wheel capture report cert o) (EndsIn done.No) work
     (λ rest n. check_ends done.No v wheel capture report cert o w c rs cs rest told steady h (invalid_ends w c rs cs not_valid) n) (inr (inr refl)) r
-denied v (Replay m c f o) work told steady d r = absurd d
-denied v (Import source name) work told steady d r = absurd d
-denied v (Size wheel) work told steady d r = absurd d
-denied v (Compile wheel image) work told steady d r = absurd d
+denied v taps (Replay m c f o) work told steady d r = absurd d
+denied v taps (Import source name) work told steady d r = absurd d
+denied v taps (Size wheel) work told steady d r = absurd d
+denied v taps (Compile wheel image) work told steady d r = absurd d
 
 -- where no write fails the status is that of the work that is done
 by_ended : (x : Done) (v w : View) (allows : Work → Type 0) (writes : Option (List ℕ)) (out new notes after : Stream) (s : Status) → (r : Ran allows writes v w out new notes after s) → IsTrue v.steady
@@ -139,12 +163,12 @@ by_ended x v w allows writes out new notes after s r steady a b settled = by set
     by (inr (inr is)) = let fault = r.served.ends ∙ is in absurd (not_written a (r.served.write fault) fault)
 
 -- a run is complete
-pub completes : (v w : View) (order : Option Order) (out new notes after : Stream) (s : Status) → Ran (IsWork v order) (option_and_then writes_of order) v w out new notes after s → IsTrue v.tells → IsTrue v.steady
+pub completes : (v w : View) (taps : List Meaning) (order : Option Order) (out new notes after : Stream) (s : Status) → Ran (IsWork v taps order) (option_and_then writes_of order) v w out new notes after s → IsTrue v.tells → IsTrue v.steady
     → NoneFailed out new → NoneFailed notes after → IfSome order (λ order. IsDue v.file order s)
-completes v w None out new notes after s r told steady a b = tt
-completes v w (Some order) out new notes after s r told steady a b = (
-  λ ready. by_ended done.Whole v w (IsWork v (Some order)) (writes_of order) out new notes after s r steady a b (settles v order r.served.work told steady ready r.served.allowed),
-  λ no. by_ended done.No v w (IsWork v (Some order)) (writes_of order) out new notes after s r steady a b (denied v order r.served.work told steady no r.served.allowed),
+completes v w taps None out new notes after s r told steady a b = tt
+completes v w taps (Some order) out new notes after s r told steady a b = (
+  λ ready. by_ended done.Whole v w (IsWork v taps (Some order)) (writes_of order) out new notes after s r steady a b (settles v taps order r.served.work told steady ready r.served.allowed),
+  λ no. by_ended done.No v w (IsWork v taps (Some order)) (writes_of order) out new notes after s r steady a b (denied v taps order r.served.work told steady no r.served.allowed),
 )
 
 -- ---- usage
@@ -157,19 +181,23 @@ ended_not_usage (Vcd fault) is = cc
 not_cause : (e : Cause) → (e ≡ cause.Usage → ⊥) → ◌≡◌ {A = Result Done Cause} (Err e) (Err cause.Usage) → ⊥
 not_cause e n is = let same : e ≡ cause.Usage = cc in n same
 
-replay_not_usage : (v : View) (m c : List ℕ) (o : Options) (work : Work) → IsReplay v m c o work → work.end ≡ Err cause.Usage → ⊥
-replay_not_usage v m c o work r =
-    reads_end v m (ModelGives v.file m) (HasPlacedWheel v.file m) (λ w. Reads v c (FileGives v.file c) (HasNamedCapture v.file c w o) (λ k. Writes (IsReported w k))) (λ end. end ≡ Err cause.Usage → ⊥) work
+replay_not_usage : (v : View) (tails : List ℕ → List ℕ) (m c : List ℕ) (o : Options) (work : Work) → IsReplay v tails m c o work → work.end ≡ Err cause.Usage → ⊥
+replay_not_usage v tails m c o work r =
+    reads_end v m (ModelGives v.file m) (HasPlacedWheel v.file m) (λ w. IsReplayOver v tails w c o) (λ end. end ≡ Err cause.Usage → ⊥) work
     (λ e s. not_cause e (open_not_usage v m e s)) (λ e s. not_cause e (read_not_usage v (ModelGives v.file m) e s))
     (λ w rest a n.
-    reads_end v c (FileGives v.file c) (HasNamedCapture v.file c w o) (λ k. Writes (IsReported w k)) (λ end. end ≡ Err cause.Usage → ⊥) rest
-    (λ e s. not_cause e (open_not_usage v c e s)) (λ e s. not_cause e (read_not_usage v (FileGives v.file c) e s))
-    (λ k last b p. writes_end (IsReported w k) (λ end. end ≡ Err cause.Usage → ⊥) last (λ text end d is. ended_not_usage k.end (sym d.1 ∙ is)) (λ e s. not_cause e (write_not_usage e s)) p) n)
+    opens_end v c (Closes tails (IsReplayPast v w c o)) (λ end. end ≡ Err cause.Usage → ⊥) rest (λ e s. not_cause e (open_not_usage v c e s))
+    (λ more q.
+    closes_end tails (IsReplayPast v w c o) (λ end. end ≡ Err cause.Usage → ⊥) more
+    (λ last p.
+    takes_end v (FileGives v.file c) (HasNamedCapture v.file c w o) (λ k. WritesLines (IsReported w k)) (λ end. end ≡ Err cause.Usage → ⊥) last (λ e s. not_cause e (read_not_usage v (FileGives v.file c) e s))
+    (λ k b t. lines_end (IsReported w k) (λ end. end ≡ Err cause.Usage → ⊥) last (λ all end d is. ended_not_usage k.end (sym d.1 ∙ is)) (λ e s. not_cause e (write_not_usage e s)) t) p)
+    (λ is. cc) q) n)
     r
 
-replayed_not_usage : (v : View) (m c : List ℕ) (f : Option (List ℕ)) (o : Options) (work : Work) → IsReplayed v m c f o work → work.end ≡ Err cause.Usage → ⊥
-replayed_not_usage v m c None o work r = replay_not_usage v m c o work r
-replayed_not_usage v m c (Some f) o work r = certified_not_usage v m c f o work r
+replayed_not_usage : (v : View) (tails : List ℕ → List ℕ) (m c : List ℕ) (f : Option (List ℕ)) (o : Options) (work : Work) → IsReplayed v tails m c f o work → work.end ≡ Err cause.Usage → ⊥
+replayed_not_usage v tails m c None o work r = replay_not_usage v tails m c o work r
+replayed_not_usage v tails m c (Some f) o work r = certified_not_usage v tails m c f o work r
 
 import_not_usage : (v : View) (source name : List ℕ) (work : Work) → IsImport v source name work → work.end ≡ Err cause.Usage → ⊥
 import_not_usage v source name work r =
@@ -190,15 +218,15 @@ size_not_usage v wheel work r =
     (λ few p. writes_end (IsSized w) (λ end. end ≡ Err cause.Usage → ⊥) rest (λ text end d. not_done_for_usage end d.1.1.1) (λ e s. not_cause e (write_not_usage e s)) p) n)
     r
 
-work_not_usage : (v : View) (order : Order) (work : Work) → IsWork v (Some order) work → work.end ≡ Err cause.Usage → ⊥
-work_not_usage v (Replay m c f o) work r =
-    hands_end (IsReplayed v m c f o) (λ end. end ≡ Err cause.Usage → ⊥) work (λ rest n. replayed_not_usage v m c f o rest n) (not_cause cause.WriteFault (λ is. cc)) r
-work_not_usage v (Import source name) work r =
+work_not_usage : (v : View) (taps : List Meaning) (order : Order) (work : Work) → IsWork v taps (Some order) work → work.end ≡ Err cause.Usage → ⊥
+work_not_usage v taps (Replay m c f o) work r =
+    hands_end (IsReplayed v (tails_after taps) m c f o) (λ end. end ≡ Err cause.Usage → ⊥) work (λ rest n. replayed_not_usage v (tails_after taps) m c f o rest n) (not_cause cause.WriteFault (λ is. cc)) r
+work_not_usage v taps (Import source name) work r =
     hands_end (IsImport v source name) (λ end. end ≡ Err cause.Usage → ⊥) work (λ rest n. import_not_usage v source name rest n) (not_cause cause.WriteFault (λ is. cc)) r
-work_not_usage v (Size wheel) work r = hands_end (IsSize v wheel) (λ end. end ≡ Err cause.Usage → ⊥) work (λ rest n. size_not_usage v wheel rest n) (not_cause cause.WriteFault (λ is. cc)) r
-work_not_usage v (Compile wheel image) work r =
+work_not_usage v taps (Size wheel) work r = hands_end (IsSize v wheel) (λ end. end ≡ Err cause.Usage → ⊥) work (λ rest n. size_not_usage v wheel rest n) (not_cause cause.WriteFault (λ is. cc)) r
+work_not_usage v taps (Compile wheel image) work r =
     hands_end (IsCompile v wheel image) (λ end. end ≡ Err cause.Usage → ⊥) work (λ rest n. compile_not_usage v wheel image rest n) (not_cause cause.WriteFault (λ is. cc)) r
-work_not_usage v (Check wheel capture report cert o) work r =
+work_not_usage v taps (Check wheel capture report cert o) work r =
     hands_end (IsCheck v wheel capture report cert o) (λ end. end ≡ Err cause.Usage → ⊥) work (λ rest n. check_not_usage v wheel capture report cert o rest n) (not_cause cause.WriteFault (λ is. cc)) r
 
 usage_end : (end : Result Done Cause) → status_of end ≡ status.Usage → end ≡ Err cause.Usage
@@ -217,10 +245,10 @@ noted_usage failed old new text end s (inr (inl (same, a))) is = absurd (cc)
 noted_usage failed old new text end s (inr (inr (same, a))) is = absurd (cc)
 
 -- usage comes only where the words are no command
-pub usage_alone : (v w : View) (order : Option Order) (out new notes after : Stream) (s : Status) → Ran (IsWork v order) (option_and_then writes_of order) v w out new notes after s → s ≡ status.Usage → order ≡ None
-usage_alone v w None out new notes after s r is = refl
-usage_alone v w (Some order) out new notes after s r is =
-    absurd (work_not_usage v order r.served.work r.served.allowed (sym r.served.ends ∙ noted_usage (FailedNote notes.faults after.faults (IsTrue notes.steady)) notes.taken after.taken (notes_text r.end r.tails) r.end s r.noted is))
+pub usage_alone : (v w : View) (taps : List Meaning) (order : Option Order) (out new notes after : Stream) (s : Status) → Ran (IsWork v taps order) (option_and_then writes_of order) v w out new notes after s → s ≡ status.Usage → order ≡ None
+usage_alone v w taps None out new notes after s r is = refl
+usage_alone v w taps (Some order) out new notes after s r is =
+    absurd (work_not_usage v taps order r.served.work r.served.allowed (sym r.served.ends ∙ noted_usage (FailedNote notes.faults after.faults (IsTrue notes.steady)) notes.taken after.taken (notes_text r.end r.tails) r.end s r.noted is))
 
 -- ---- writes that went through
 
@@ -229,3 +257,19 @@ pub end_went_out : (failed : Type 0) (old new : Option (List ℕ)) (text : List 
 end_went_out failed old new text end s (inl (same, a)) out is = out.0 (same ∙ ap status_of is)
 end_went_out failed old new text end s (inr (inl (same, a))) out is = out.0 same
 end_went_out failed old new text end s (inr (inr (same, a))) out is = out.1 same
+
+-- ---- what serving and its end come to
+
+-- the command was served, and notes got its line and its tails
+pub ran_by : (allows : Work → Type 0) (writes : Option (List ℕ)) (v w : View) (out new notes after : Stream) (end : Result Done Cause) (tails text : List ℕ) (s : Status) → text ≡ tails → Served allows writes v w out new tails end
+    → HasNoted (FailedNote notes.faults after.faults (IsTrue notes.steady)) notes.taken after.taken (notes_text end text) (status_of end) s → (¬ (s ≡ status.WriteFault) → after.faults ≡ notes.faults)
+    → (IsTrue notes.steady → after.faults ≡ notes.faults) → notes.faults ≤ after.faults → Ran allows writes v w out new notes after s
+ran_by allows writes v w out new notes after end tails text s same served noted settled calm later = record {
+  end = end;
+  tails = tails;
+  served = served;
+  noted = subst (λ l. HasNoted (FailedNote notes.faults after.faults (IsTrue notes.steady)) notes.taken after.taken (notes_text end l) (status_of end) s) same noted;
+  settled = settled;
+  calm = calm;
+  later = later;
+}

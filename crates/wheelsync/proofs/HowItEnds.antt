@@ -1,5 +1,6 @@
 -- How the commands end, end by end.
-use Rattle.std.proofs.Common.{◌≡◌, ℕ, ◌≤◌, ◌⊎◌, inl, inr, List, [], length, take, Option, Result, Ok, Err, refl, sym, ◌∙◌, subst, ap, arith}
+use Rattle.std.proofs.Common.{◌≡◌, ℕ, ◌+◌, ◌≤◌, ◌⊎◌, inl, inr, List, [], ◌∷◌, ◌++◌, length, take, drop, Option, Result, Ok, Err, refl, sym, ◌∙◌, subst, ap, arith, append_assoc, length-append, take-append-drop}
+use Rattle.std.proofs.lemmas.List.{take-append-le}
 use Rattle.std.proofs.Math.Seq.{take-length}
 use Rattle.shelf_traits.specs.Shelf.{View}
 use Rattle.wheel_types.specs.declared.parts.WheelParts.{WheelParts}
@@ -12,17 +13,21 @@ use Rattle.run_ends.specs.declared.cause.Done.{Done}
 use Rattle.run_ends.specs.declared.cause.Done.TheVariants as done
 use Rattle.run_ends.specs.declared.cause.Cause.{Cause}
 use Rattle.run_ends.specs.declared.cause.Cause.TheVariants as cause
-use Rattle.run_ends.specs.Works.{Work, Told, Reads, Writes, StopsOpen, StopsRead, StopsWrite}
-use Rattle.run_ends.proofs.Outcomes.{reads_out, writes_out, hands_out}
+use Rattle.run_ends.specs.Works.{Work, Told, Writes, StopsOpen, StopsRead, StopsWrite}
+use Rattle.run_ends.proofs.Outcomes.{reads_out, writes_out, hands_out, opens_out, closes_out, takes_out, lines_out}
+use Rattle.run_ends.specs.Lines.{MarkedLine, WritesLines, text_of}
+use Rattle.run_ends.specs.Stages.{Closes}
 use Rattle.run_files.specs.Causes.{FileGives, ModelGives, SourceGives, ended_by}
 use Rattle.run_files.specs.Files.{HasPlacedWheel, HasTable}
 use Rattle.named_captures.specs.Captures.{HasNamedCapture}
 use Rattle.wheelsync.specs.Complete.{AreRead}
 use Rattle.wheelsync.specs.Headline.{IsReport}
-use Rattle.wheelsync.specs.Replay.{IsReplay}
+use Rattle.wheelsync.specs.Replay.{IsReplay, IsReplayOver, IsReplayPast, IsReported}
+use Rattle.wheelsync.specs.Reported.{AreReported}
+use Rattle.wheelsync.proofs.Reports.{text_append}
 use Rattle.wheelsync.specs.Import.{IsImport}
 use Rattle.wheelsync.specs.Endings.{GotReport, GotFront, ReplayEnds, GotTableFront, ImportEnds, ReplaysEnd, ImportsEnd}
-use Rattle.wheelsync.proofs.Endings.{IsReported, IsSlotsLine}
+use Rattle.wheelsync.proofs.Endings.{IsSlotsLine}
 
 -- a whole text is a front of itself
 all_of : (text : List ℕ) → text ≡ take (length text) text
@@ -68,48 +73,74 @@ report_written v m f o w c Clean text a is r = (refl, λ told. (w, (c, (a told, 
 report_written v m f o w c (Csv fault) text a is r = λ told. inr (w, (c, (a told, (ap ended_by (sym is), r))))
 report_written v m f o w c (Vcd fault) text a is r = λ told. inr (w, (c, (a told, (ap ended_by (sym is), r))))
 
-report_cut : (v : View) (m f : List ℕ) (o : Options) (w : WheelParts) (c : Capture) (e : Cause) (text : List ℕ) (k : ℕ) → Told v (AreRead v.file m f o w c) → IsReport w c.instants text → k ≤ length text → StopsWrite e
-    → ReplayEnds v m f o (Err e) (take k text)
-report_cut v m f o w c cause.WriteFault text k a r within s = λ told. inr (w, (c, (text, (k, (a told, (r, (within, refl)))))))
-report_cut v m f o w c cause.Memory text k a r within s = λ told. inr (w, (c, (text, (k, (a told, (r, (within, refl)))))))
-report_cut v m f o w c cause.Usage text k a r within s = absurd s
-report_cut v m f o w c cause.ReadFault text k a r within s = absurd s
-report_cut v m f o w c (cause.Refused x) text k a r within s = absurd s
-report_cut v m f o w c (cause.Limit l) text k a r within s = absurd s
+-- lines, and a front of the next one, are a front of all
+front_of_lines : (before rest : List MarkedLine) (cut : MarkedLine) (k : ℕ)
+    → (n : ℕ) × ((n ≤ length (text_of (before ++ cut ∷ rest))) × (text_of before ++ take k cut.text ≡ take n (text_of (before ++ cut ∷ rest))))
+front_of_lines before rest cut k =
+    let whole : text_of (before ++ cut ∷ rest) ≡ (text_of before ++ take k cut.text) ++ (drop k cut.text ++ text_of rest)
+    = text_append before (cut ∷ rest)
+    ∙ ap (λ t. text_of before ++ (t ++ text_of rest)) (sym (take-append-drop k cut.text))
+    ∙ ap (λ t. text_of before ++ t) (append_assoc (take k cut.text) (drop k cut.text) (text_of rest))
+    ∙ sym (append_assoc (text_of before) (take k cut.text) (drop k cut.text ++ text_of rest)) in
+    let first : List ℕ = text_of before ++ take k cut.text in
+    let last : List ℕ = drop k cut.text ++ text_of rest in
+    let size : length (first ++ last) ≡ length first + length last = length-append first last in (
+      length first,
+      (subst (λ (t : List ℕ). length first ≤ length t) (sym whole) (omega (arith, size)), sym (ap (take (length first)) whole ∙ take-append-le (length first) first last (omega arith) ∙ take-length first)),
+    )
+
+report_cut : (v : View) (m f : List ℕ) (o : Options) (w : WheelParts) (c : Capture) (e : Cause) (before rest : List MarkedLine) (cut : MarkedLine) (k : ℕ) → Told v (AreRead v.file m f o w c) → AreReported w c.instants (before ++ cut ∷ rest)
+    → StopsWrite e → ReplayEnds v m f o (Err e) (text_of before ++ take k cut.text)
+report_cut v m f o w c e before rest cut k a r s = by e s
+  where
+    got : Told v (GotFront v.file m f o (text_of before ++ take k cut.text))
+    got told = let n = front_of_lines before rest cut k in inr (w, (c, (text_of (before ++ cut ∷ rest), (n.0, (a told, (r.report, (n.1.0, n.1.1)))))))
+
+    by : (e : Cause) → StopsWrite e → ReplayEnds v m f o (Err e) (text_of before ++ take k cut.text)
+    by cause.WriteFault s = got
+    by cause.Memory s = got
+    by cause.Usage s = absurd s
+    by cause.ReadFault s = absurd s
+    by (cause.Refused x) s = absurd s
+    by (cause.Limit l) s = absurd s
 
 front_of : (file : List ℕ → Option (List ℕ)) (m f : List ℕ) (o : Options) (end : Result Done Cause) (out : List ℕ) → GotReport file m f o end out → GotFront file m f o out
 front_of file m f o end out (w, (c, (a, (is, r)))) = inr (w, (c, (out, (length out, (a, (r, (omega arith, all_of out)))))))
 
--- where out is not handed on, it got what it had
-replay_cut : (v : View) (m f : List ℕ) (o : Options) (end : Result Done Cause) (out : List ℕ) → ReplayEnds v m f o end out → ReplayEnds v m f o (Err cause.WriteFault) out
-replay_cut v m f o (Ok x) out h = λ told. front_of v.file m f o (Ok done.Whole) out (h.1 told)
-replay_cut v m f o (Err (cause.Refused r)) out h = λ told. by (h told)
+-- however it ends, out got a front of the report, where there is one
+got_front : (v : View) (m f : List ℕ) (o : Options) (end : Result Done Cause) (out : List ℕ) → ReplayEnds v m f o end out → Told v (GotFront v.file m f o out)
+got_front v m f o (Ok x) out h = λ told. front_of v.file m f o (Ok done.Whole) out (h.1 told)
+got_front v m f o (Err (cause.Refused r)) out h = λ told. by (h told)
   where
     by : ((out ≡ []) × ModelGives v.file m (cause.Refused r)) ⊎ GotReport v.file m f o (Err (cause.Refused r)) out → GotFront v.file m f o out
     by (inl (is, g)) = inl is
     by (inr g) = front_of v.file m f o (Err (cause.Refused r)) out g
-replay_cut v m f o (Err (cause.Limit l)) out h = λ told. inl h.0
-replay_cut v m f o (Err cause.ReadFault) out h = λ told. inl h.0
-replay_cut v m f o (Err cause.WriteFault) out h = h
-replay_cut v m f o (Err cause.Memory) out h = h
-replay_cut v m f o (Err cause.Usage) out h = absurd h
+got_front v m f o (Err (cause.Limit l)) out h = λ told. inl h.0
+got_front v m f o (Err cause.ReadFault) out h = λ told. inl h.0
+got_front v m f o (Err cause.WriteFault) out h = h
+got_front v m f o (Err cause.Memory) out h = h
+got_front v m f o (Err cause.Usage) out h = absurd h
 
-replay_ends : (v : View) (m f : List ℕ) (o : Options) (work : Work) → IsReplay v m f o work → ReplayEnds v m f o work.end work.out
-replay_ends v m f o work r =
-    reads_out v m (ModelGives v.file m) (HasPlacedWheel v.file m) (λ w. Reads v f (FileGives v.file f) (HasNamedCapture v.file f w o) (λ k. Writes (IsReported w k))) (ReplayEnds v m f o) work
+replay_ends : (v : View) (tails : List ℕ → List ℕ) (m f : List ℕ) (o : Options) (work : Work) → IsReplay v tails m f o work → ReplayEnds v m f o work.end work.out
+replay_ends v tails m f o work r =
+    reads_out v m (ModelGives v.file m) (HasPlacedWheel v.file m) (λ w. IsReplayOver v tails w f o) (ReplayEnds v m f o) work
     (model_not_opened v m f o) (model_not_read v m f o)
     (λ w rest a n.
-    reads_out v f (FileGives v.file f) (HasNamedCapture v.file f w o) (λ k. Writes (IsReported w k)) (ReplayEnds v m f o) rest
-    (λ e s. capture_not_opened v m f o w e a s) (λ e s. capture_not_read v m f o w e a s)
-    (λ c last b p.
-    writes_out (IsReported w c) (ReplayEnds v m f o) last
-    (λ text end d. subst (λ end. ReplayEnds v m f o end text) (sym d.1) (report_written v m f o w c c.end text (λ told. record { model_file = a told; capture_file = b told }) refl d.0))
-    (λ e text end k d within s. report_cut v m f o w c e text k (λ told. record { model_file = a told; capture_file = b told }) d.0 within s)
-    (λ told. inl refl) p) n)
+    opens_out v f (Closes tails (IsReplayPast v w f o)) (ReplayEnds v m f o) rest (λ e s. capture_not_opened v m f o w e a s)
+    (λ more q.
+    closes_out tails (IsReplayPast v w f o) (ReplayEnds v m f o) more
+    (λ last p.
+    takes_out v (FileGives v.file f) (HasNamedCapture v.file f w o) (λ c. WritesLines (IsReported w c)) (ReplayEnds v m f o) last (λ e s. capture_not_read v m f o w e a s)
+    (λ c b t.
+    lines_out (IsReported w c) (ReplayEnds v m f o) last
+    (λ all end d. subst (λ end. ReplayEnds v m f o end (text_of all)) (sym d.1) (report_written v m f o w c c.end (text_of all) (λ told. record { model_file = a told; capture_file = b told }) refl d.0.report))
+    (λ e before cut rest end k d s. report_cut v m f o w c e before rest cut k (λ told. record { model_file = a told; capture_file = b told }) d.0 s) t) p)
+    (λ end out h. got_front v m f o end out h) q) n)
     r
 
 pub replays_end : ReplaysEnd
-replays_end v m f o work r = hands_out (IsReplay v m f o) (ReplayEnds v m f o) work (λ rest n. replay_ends v m f o rest n) (replay_cut v m f o) r
+replays_end v tails m f o work r =
+    hands_out (IsReplay v tails m f o) (ReplayEnds v m f o) work (λ rest n. replay_ends v tails m f o rest n) (λ end out h. got_front v m f o end out h) r
 
 -- ---- import
 

@@ -3,6 +3,7 @@ pub mod OneReport
 pub mod Reports
 pub mod WholeReports
 pub mod Putting
+pub mod Replaying
 pub mod CertifiedLines
 pub mod Endings
 pub mod Completing

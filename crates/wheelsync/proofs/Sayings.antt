@@ -1,13 +1,15 @@
 -- The verdicts of instants say what is proved, at each of them.
-use Rattle.std.proofs.Common.{◌≡◌, ℕ, ◌↔◌, List, [], ◌∷◌, reverse, refl, sym, ◌∙◌, subst}
+use Rattle.std.proofs.Common.{◌≡◌, ℕ, ◌+◌, ◌↔◌, List, [], ◌∷◌, ◌++◌, reverse, refl, sym, ◌∙◌, ap, subst}
 use Rattle.wheel_types.specs.declared.parts.WheelParts.{WheelParts}
 use Rattle.wheel_types.specs.declared.instant.Instant.{Instant}
 use Rattle.wheel_types.specs.declared.verdict.Verdict.{Verdict}
 use Rattle.wheel_types.specs.declared.verdict.Verdict.TheVariants.{At, Open, Lost}
 use Rattle.wheel_types.specs.Verdicts.{AreGiven, AreVerdicts, IsVerdict}
-use Rattle.wheel_types.specs.Texts.{report_text}
+use Rattle.wheel_types.specs.Texts.{report_text, line_text}
 use Rattle.wheelsync.specs.Sayings.{SaysAt, SaysOpen, SaysLost, AllEndAt, TwoEndApart, Each, SinceReset}
+use Rattle.run_ends.specs.Lines.{text_of}
 use Rattle.wheelsync.specs.Headline.{IsReport}
+use Rattle.wheelsync.specs.Reported.{marked_line, lines_of, AreReported}
 
 says_at : (w : WheelParts) (is : List Instant) (v : Verdict) → IsVerdict w is v → (p : ℕ) → SaysAt p v ↔ (AreGiven w is × AllEndAt w is p)
 says_at w is (At j slot) h p = (λ e. (h.0, λ q ends. h.1 q ends ∙ e), λ s. sym (h.1 s.0.0 s.0.1) ∙ s.1 s.0.0 s.0.1)
@@ -68,3 +70,14 @@ are_verdicts w [] (v ∷ vs) more next r p = absurd r
 are_verdicts w (i ∷ past) [] more next r p = absurd r
 are_verdicts w (i ∷ past) (v ∷ vs) [] next r p = absurd r
 are_verdicts w (i ∷ past) (v ∷ vs) (since ∷ more) next r p = (r.0, are_verdicts w past vs more r.0 r.1.1.0 p.1, subst (λ is. IsVerdict w is v) r.1.0 p.0, r.1.1.1)
+
+-- the text of the lines of instants
+pub lines_text : (index : ℕ) (is : List Instant) (vs : List Verdict) → text_of (lines_of index is vs) ≡ report_text index is vs
+lines_text index [] vs = refl
+lines_text index (i ∷ is) [] = refl
+lines_text index (i ∷ is) (v ∷ vs) = ap (λ t. line_text index i v ++ t) (lines_text (index + 1) is vs)
+
+-- the lines of instants whose verdicts these are
+pub reported_by : (w : WheelParts) (instants : List Instant) (vs : List Verdict) (next : List Instant) → AreVerdicts w (reverse instants) vs next → AreReported w instants (lines_of 1 instants (reverse vs))
+unfolding report_of
+reported_by w instants vs next h = record { report = report_of w instants (text_of (lines_of 1 instants (reverse vs))) vs next h (lines_text 1 instants (reverse vs)); lines = refl }

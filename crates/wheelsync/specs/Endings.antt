@@ -56,9 +56,9 @@ ImportEnds v source name (Err cause.WriteFault) out = Told v (GotTableFront v.fi
 ImportEnds v source name (Err cause.Memory) out = Told v (GotTableFront v.file source name out)
 ImportEnds v source name (Err e) out = (out ≡ []) × Told v (SourceGives v.file source name e)
 
--- every replay ends so
+-- every replay ends so, with any taps
 abbrev pub ReplaysEnd : Type 0
-ReplaysEnd = (v : View) (model capture : List ℕ) (o : Options) (work : Work) → HandsOn (IsReplay v model capture o) work → ReplayEnds v model capture o work.end work.out
+ReplaysEnd = (v : View) (tails : List ℕ → List ℕ) (model capture : List ℕ) (o : Options) (work : Work) → HandsOn (IsReplay v tails model capture o) work → ReplayEnds v model capture o work.end work.out
 
 -- every import ends so
 abbrev pub ImportsEnd : Type 0

@@ -1,6 +1,6 @@
-pub mod Marks
 pub mod Sayings
 pub mod Headline
+pub mod Reported
 pub mod Outputs
 pub mod Stepping
 pub mod Complete

@@ -9,13 +9,13 @@ mod import;
 mod laws;
 mod put;
 mod replay;
-mod tap;
 mod top;
 
+pub use certified_replay::Ended;
 pub use commands::serve;
 pub use laws::{certified_lines_are_the_report, imports_end, one_report, replays_end};
 pub use pair_certificate::report_line;
 pub use put::put_report;
 pub use run_ends::Status;
-pub use tap::{Go, Tap, mark};
+pub use tap_board::{Go, Tap, mark};
 pub use top::run;

@@ -1,29 +1,31 @@
-//! Writing a report line by line.
-ghost use Rattle.std.specs.Prelude.{◌≡◌, ◌≤◌, ◌<◌, ◌^◌, ◌∷◌, [], ◌<ℤ◌, List, Some, None, IfOk, IfErr, IfSome, OnOk, OnErr, IsErrOf, IsTrue, unsigned_abs};
-ghost use Rattle.std.specs.Io.KnownBytes.{Appends};
+//! Writing a report line by line, and telling taps of it.
+ghost use Rattle.std.specs.Prelude.{◌≡◌, ◌≤◌, ◌^◌, [], map, ◌<ℤ◌, List, Some, None, IfOk, IfErr, IfSome, OnOk, IsErrOf, IsTrue, unsigned_abs};
 ghost use Rattle.shelf_traits.specs.Count.{Rose};
 ghost use Rattle.wheel_types.specs.declared.parts.WheelParts.{WheelParts};
 ghost use Rattle.wheel_types.specs.declared.instant.Instant.{Instant as Moment};
 ghost use Rattle.wheel_types.specs.declared.verdict.Verdict.{Verdict as Judgement};
 ghost use Rattle.wheel_types.specs.Verdicts.{IsRising, AreWithin};
+ghost use Rattle.wheel_types.specs.Wheels.{IsWheel};
 ghost use Rattle.plain_motion.specs.Sets.{last_of};
 ghost use Rattle.run_ends.specs.Works.{StopsWrite};
-ghost use Rattle.run_ends.specs.Prefixes.{AppendsPrefix};
-ghost use Rattle.wheelsync.specs.Outputs.{GetsReport};
-ghost use Rattle.wheelsync.specs.Stepping.{StandsOver, GetsLine, GetsLineFront, GetsSteppedFront};
+ghost use Rattle.wheelsync.specs.Outputs.{GetsReport, GetsFront};
+ghost use Rattle.wheelsync.specs.Stepping.{StandsOver, GetsLine, GetsLineFront};
 
+use certified_replay::put_line;
 use pair_certificate::report_line;
 use plain_motion::PlainSet;
-use run_ends::{Cause, put};
+use run_ends::Cause;
 use shelf_io::Sink;
 use std::alloc::Global;
+use tap_board::{Board, Tap};
 use wheel_types::{Instant, Memory, Report};
 
-/// Steps one instant, and writes its line.
+/// Steps one instant, writes its line, and tells the board.
 fn put_instant<O: Sink>(
     alloc: Global,
     out: &mut O,
     set: &mut PlainSet,
+    board: &mut Board,
     index: u64,
     instant: &Instant,
 ) -> Result<(), Cause>
@@ -32,9 +34,12 @@ fn put_instant<O: Sink>(
     ensures later { O.faults out.old ≤ O.faults out.new }
     ensures last { OnOk result (last_of set.new ≡ Some instant.now.time) }
     ensures ok { OnOk result ((w : WheelParts) (past : List Moment) (verdicts : List Judgement) → StandsOver w set.old past verdicts
-        → GetsLine (O.taken out.old) (O.taken out.new) w set.new index instant.now past verdicts) }
-    ensures err { OnErr result ((w : WheelParts) (past : List Moment) (verdicts : List Judgement) → StandsOver w set.old past verdicts
-        → GetsLineFront (O.taken out.old) (O.taken out.new) w index instant.now past verdicts) }
+        → GetsLine (O.taken out.old) (O.taken out.new) (map (λ tap. (⟦<dyn Tap as Tap>⟧ tap.vtable).meaning tap.value) board.old.taps.items)
+        (map (λ tap. (⟦<dyn Tap as Tap>⟧ tap.vtable).meaning tap.value) board.new.taps.items) w set.new index instant.now past verdicts) }
+    ensures untold { IsErrOf result Cause.WriteFault → (map (λ tap. (⟦<dyn Tap as Tap>⟧ tap.vtable).meaning tap.value) board.new.taps.items)
+        ≡ (map (λ tap. (⟦<dyn Tap as Tap>⟧ tap.vtable).meaning tap.value) board.old.taps.items) }
+    ensures err { IfErr result (λ e. (w : WheelParts) (past : List Moment) (verdicts : List Judgement) → StandsOver w set.old past verdicts
+        → GetsLineFront e (O.taken out.old) (O.taken out.new) w index instant.now past verdicts) }
     ensures kinds { IfErr result StopsWrite }
     ensures write { IsErrOf result Cause.WriteFault → Rose (O.faults out.old) (O.faults out.new) }
     ensures quiet { ¬ IsErrOf result Cause.WriteFault → O.faults out.new ≡ O.faults out.old }
@@ -55,22 +60,31 @@ fn put_instant<O: Sink>(
         Ok(line) => line,
         Err(Memory) => return Err(Cause::Memory),
     };
-    put(out, &line)
+    put_line(out, &line)?;
+    match board.tell(&report) {
+        Ok(()) => Ok(()),
+        Err(Memory) => Err(Cause::Memory),
+    }
 }
 
-/// Writes the report of instants whose times rise, over a fresh set.
+/// Writes the report of instants whose times rise, over a fresh set, and tells the board of each line past it.
 pub fn put_report<O: Sink>(
     alloc: Global,
     out: &mut O,
     set: &mut PlainSet,
+    board: &mut Board,
     instants: &[Instant],
 ) -> Result<(), Cause>
     requires fresh { last_of set.old ≡ None }
     requires rising { IsRising instants.now }
     requires sizes { AreWithin (10 ^ 24) instants.now }
     ensures later { O.faults out.old ≤ O.faults out.new }
-    ensures ok { OnOk result ((w : WheelParts) → StandsOver w set.old [] [] → GetsReport (O.taken out.old) (O.taken out.new) w instants.now) }
-    ensures err { OnErr result ((w : WheelParts) → StandsOver w set.old [] [] → GetsSteppedFront (O.taken out.old) (O.taken out.new) w instants.now) }
+    ensures ok { OnOk result ((w : WheelParts) → StandsOver w set.old [] [] → GetsReport (O.taken out.old) (O.taken out.new)
+        (map (λ tap. (⟦<dyn Tap as Tap>⟧ tap.vtable).meaning tap.value) board.old.taps.items)
+        (map (λ tap. (⟦<dyn Tap as Tap>⟧ tap.vtable).meaning tap.value) board.new.taps.items) w instants.now) }
+    ensures err { IfErr result (λ e. (w : WheelParts) → IsWheel w → StandsOver w set.old [] [] → GetsFront e (O.taken out.old) (O.taken out.new)
+        (map (λ tap. (⟦<dyn Tap as Tap>⟧ tap.vtable).meaning tap.value) board.old.taps.items)
+        (map (λ tap. (⟦<dyn Tap as Tap>⟧ tap.vtable).meaning tap.value) board.new.taps.items) w instants.now) }
     ensures kinds { IfErr result StopsWrite }
     ensures write { IsErrOf result Cause.WriteFault → Rose (O.faults out.old) (O.faults out.new) }
     ensures quiet { ¬ IsErrOf result Cause.WriteFault → O.faults out.new ≡ O.faults out.old }
@@ -78,7 +92,7 @@ pub fn put_report<O: Sink>(
     ensures calm { IsTrue (O.steady out.old) → ¬ IsErrOf result Cause.WriteFault }
 {
     for (number, instant) in instants.iter().enumerate() {
-        put_instant(alloc, out, set, number as u64 + 1, instant)?;
+        put_instant(alloc, out, set, board, number as u64 + 1, instant)?;
     }
     Ok(())
 }

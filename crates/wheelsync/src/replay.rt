@@ -1,21 +1,59 @@
 //! The command `replay`.
-ghost use Rattle.std.specs.Prelude.{◌≢◌, [], None, IfSome};
+ghost use Rattle.std.specs.Prelude.{◌≡◌, ◌≢◌, ℕ, List, None, IfSome, map};
 ghost use Rattle.std.specs.Option.{option_map};
+ghost use Rattle.shelf_traits.specs.Shelf.{IsReader, View};
+ghost use Rattle.wheel_types.specs.Wheels.{IsWheel};
+ghost use Rattle.edge_angles.specs.EdgeTables.{AreEdgesOf};
 ghost use Rattle.command_words.specs.Options.{options_of};
-ghost use Rattle.run_ends.specs.Serving.{Served, stream};
-ghost use Rattle.wheelsync.specs.Replay.{IsReplay, IsReplayed};
+ghost use Rattle.run_ends.specs.Serving.{Served, Tells, stream};
+ghost use Rattle.run_ends.specs.Stages.{Past};
+ghost use Rattle.run_files.specs.Models.{IsFreshSet};
+ghost use Rattle.tap_board.specs.Meanings.{told_all, tails_after};
+ghost use Rattle.certified_replay.specs.Openings.{HasOpened};
+ghost use Rattle.wheelsync.specs.Replay.{IsReplay, IsReplayed, IsReplayPast};
 
 use crate::put_report;
-use certified_replay::replay_certified;
+use certified_replay::{Ended, close, open_file, replay_certified, take_capture, without_tails};
 use command_words::Options;
-use named_captures::load_named;
 use run_ends::{Cause, Done};
 use run_files::{Model, ended, load_model};
 use shelf_io::{Shelf, Sink};
 use std::alloc::Global;
+use tap_board::{Board, Tap};
+
+/// Replays the capture of an open slot over a model, and tells the board of each line.
+fn replay_past<S: Shelf, O: Sink>(
+    alloc: Global,
+    model: Model,
+    source: u32,
+    options: Options<'_>,
+    shelf: &mut S,
+    out: &mut O,
+    board: &mut Board,
+) -> Result<Done, Cause>
+    requires built { IsWheel model.wheel.parts }
+    requires edges { AreEdgesOf model.wheel.parts model.edges }
+    requires fresh { IsFreshSet model.wheel.parts model.set }
+    requires reader { IsReader (S.view shelf.old) source }
+    ensures { (v : View) (name : List ℕ) → HasOpened v (S.view shelf.old) name source
+        → Tells (Past name (IsReplayPast v model.wheel.parts name (options_of options.entry))) None v (S.view shelf.new)
+        (stream (O.faults out.old) (O.taken out.old) (O.steady out.old)) (stream (O.faults out.new) (O.taken out.new) (O.steady out.new))
+        (λ marks. (map (λ tap. (⟦<dyn Tap as Tap>⟧ tap.vtable).meaning tap.value) board.new.taps.items)
+        ≡ told_all marks (map (λ tap. (⟦<dyn Tap as Tap>⟧ tap.vtable).meaning tap.value) board.old.taps.items)) result }
+{
+    let Model {
+        wheel,
+        edges,
+        mut set,
+    } = model;
+    let capture = take_capture(alloc, shelf, source, options, &wheel, &edges)?;
+    put_report(alloc, out, &mut set, board, capture.instants.as_slice())?;
+    ended(capture.end)
+}
 
 /// Replays the capture of one file over the wheel of another. Where the capture has a fault, the report of the instants
-/// before it is written all the same.
+/// before it is written all the same. The taps are told of each line past it, and closed at the end, if the capture was opened; and else
+/// dropped untouched.
 pub fn replay<S: Shelf, O: Sink>(
     alloc: Global,
     model: &str,
@@ -23,18 +61,23 @@ pub fn replay<S: Shelf, O: Sink>(
     options: Options<'_>,
     shelf: &mut S,
     out: &mut O,
-) -> Result<Done, Cause>
-    ensures { Served (IsReplay (S.view shelf.old) model.now capture.now (options_of options.entry)) None (S.view shelf.old) (S.view shelf.new)
-        (stream (O.faults out.old) (O.taken out.old) (O.steady out.old)) (stream (O.faults out.new) (O.taken out.new) (O.steady out.new)) [] result }
+    taps: Vec<Box<dyn Tap>>,
+) -> Ended
+    ensures { Served (IsReplay (S.view shelf.old) (tails_after (map (λ tap. (⟦<dyn Tap as Tap>⟧ tap.vtable).meaning tap.value) taps.items))
+        model.now capture.now (options_of options.entry)) None (S.view shelf.old) (S.view shelf.new)
+        (stream (O.faults out.old) (O.taken out.old) (O.steady out.old)) (stream (O.faults out.new) (O.taken out.new) (O.steady out.new)) result.tails.items result.end }
 {
-    let Model {
-        wheel,
-        edges,
-        mut set,
-    } = load_model(alloc, shelf, model)?;
-    let capture = load_named(alloc, shelf, capture, options, &wheel, &edges)?;
-    put_report(alloc, out, &mut set, capture.instants.as_slice())?;
-    ended(capture.end)
+    let model = match load_model(alloc, shelf, model) {
+        Ok(model) => model,
+        Err(cause) => return without_tails(alloc, Err(cause)),
+    };
+    let source = match open_file(shelf, capture) {
+        Ok(source) => source,
+        Err(cause) => return without_tails(alloc, Err(cause)),
+    };
+    let mut board = Board::new(taps);
+    let end = replay_past(alloc, model, source, options, shelf, out, &mut board);
+    close(alloc, board, end)
 }
 
 /// Replays the capture of one file over the wheel of another; where a third is given, it gets the certificate of the report. It asks that this
@@ -47,13 +90,15 @@ pub fn replay_with<S: Shelf, O: Sink>(
     options: Options<'_>,
     shelf: &mut S,
     out: &mut O,
-) -> Result<Done, Cause>
+    taps: Vec<Box<dyn Tap>>,
+) -> Ended
     requires apart { IfSome cert (λ cert. capture.now ≢ cert.now) }
-    ensures { Served (IsReplayed (S.view shelf.old) model.now capture.now (option_map (λ s. s.now) cert.entry) (options_of options.entry)) (option_map (λ s. s.now) cert.entry) (S.view shelf.old) (S.view shelf.new)
-        (stream (O.faults out.old) (O.taken out.old) (O.steady out.old)) (stream (O.faults out.new) (O.taken out.new) (O.steady out.new)) [] result }
+    ensures { Served (IsReplayed (S.view shelf.old) (tails_after (map (λ tap. (⟦<dyn Tap as Tap>⟧ tap.vtable).meaning tap.value) taps.items))
+        model.now capture.now (option_map (λ s. s.now) cert.entry) (options_of options.entry)) (option_map (λ s. s.now) cert.entry) (S.view shelf.old) (S.view shelf.new)
+        (stream (O.faults out.old) (O.taken out.old) (O.steady out.old)) (stream (O.faults out.new) (O.taken out.new) (O.steady out.new)) result.tails.items result.end }
 {
     match cert {
-        None => replay(alloc, model, capture, options, shelf, out),
-        Some(cert) => replay_certified(alloc, model, capture, cert, options, shelf, out),
+        None => replay(alloc, model, capture, options, shelf, out, taps),
+        Some(cert) => replay_certified(alloc, model, capture, cert, options, shelf, out, taps),
     }
 }

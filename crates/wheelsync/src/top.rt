@@ -1,11 +1,11 @@
 //! The top call.
-ghost use Rattle.std.specs.Prelude.{◌≡◌, [], None, IsTrue, IfSome, map, option_and_then, string_bytes};
+ghost use Rattle.std.specs.Prelude.{◌≡◌, None, IsTrue, IfSome, map, option_and_then, string_bytes};
 ghost use Rattle.command_words.specs.Words.{command_of, writes_of};
 ghost use Rattle.run_ends.specs.Serving.{Ran, NoneFailed, WentOut, stream};
 ghost use Rattle.wheelsync.specs.Complete.{IsDue};
 ghost use Rattle.wheelsync.specs.Commands.{IsWork};
 
-use crate::{Tap, serve};
+use crate::{Ended, Tap, serve};
 use run_ends::{Status, finish};
 use shelf_io::{Shelf, Sink};
 use std::alloc::Global;
@@ -23,7 +23,11 @@ use std::alloc::Global;
 /// limit, no file is created or changed, and where writing stops IMAGE has a front of the image, if it was created.
 /// `check WHEEL CAPTURE REPORT CERT` reads a wheel file, a capture that is to end clean, a report and a certificate, and writes `yes` where
 /// the certificate is valid, and else `no` with the first instant that has a broken rule and the number of its first one; the status is
-/// then `No`. On `notes` comes one line, where the status is neither `Done` nor `No`. The taps are dropped untouched.
+/// then `No`. On `notes` comes one line, where the status is neither `Done` nor `No`.
+///
+/// The taps are told of each line of a replay, once it was written and the certificate's line beside it. Where the capture was opened they are
+/// closed at the end, and their tails come on `notes` past the line, but at want of memory. In all other commands, and where the capture
+/// was not opened, they are dropped untouched.
 pub fn run<S: Shelf, O: Sink, N: Sink>(
     alloc: Global,
     words: &[String],
@@ -33,7 +37,7 @@ pub fn run<S: Shelf, O: Sink, N: Sink>(
     taps: Vec<Box<dyn Tap>>,
 ) -> Status
     // Some work that the words' relation allows is what the shelf, out and notes show of it, and the status is that of its end.
-    ensures ran { Ran (IsWork (S.view shelf.old) (command_of (map string_bytes words.now)))
+    ensures ran { Ran (IsWork (S.view shelf.old) (map (λ tap. (⟦<dyn Tap as Tap>⟧ tap.vtable).meaning tap.value) taps.items) (command_of (map string_bytes words.now)))
         (option_and_then writes_of (command_of (map string_bytes words.now))) (S.view shelf.old) (S.view shelf.new)
         (stream (O.faults out.old) (O.taken out.old) (O.steady out.old)) (stream (O.faults out.new) (O.taken out.new) (O.steady out.new))
         (stream (N.faults notes.old) (N.taken notes.old) (N.steady notes.old)) (stream (N.faults notes.new) (N.taken notes.new) (N.steady notes.new)) result }
@@ -53,7 +57,6 @@ pub fn run<S: Shelf, O: Sink, N: Sink>(
         → NoneFailed (stream (N.faults notes.old) (N.taken notes.old) (N.steady notes.old)) (stream (N.faults notes.new) (N.taken notes.new) (N.steady notes.new))
         → IfSome (command_of (map string_bytes words.now)) (λ order. IsDue (S.view shelf.old).file order result) }
 {
-    let end = serve(alloc, words, shelf, out);
-    drop(taps);
-    finish(end, &[], notes)
+    let Ended { end, tails } = serve(alloc, words, shelf, out, taps);
+    finish(end, &tails, notes)
 }

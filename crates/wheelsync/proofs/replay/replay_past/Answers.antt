@@ -1,0 +1,30 @@
+use Rattle.std.proofs.Common.{ap, refl, Err}
+use Rattle.std.proofs.lemmas.Result.{err_from_is_err_and}
+use Rattle.run_ends.proofs.Serving.{rises}
+use Rattle.wheelsync.proofs.Endings.{report_front, report_whole, front_as, whole_as}
+use Rattle.wheelsync.proofs.Replaying.{not_taken, taken}
+use Rattle.wheelsync.proofs.replay.replay_past.Goals as goal
+
+pub returns-in_err-capture : goal.returns-in_err-capture
+returns-in_err-capture g c =
+    let p = err_from_is_err_and c.from_residual.result c.from_residual.ensures.1 in
+    rw (p.1, p.2) (λ v name h. not_taken v _ _ _ name _ _ _ c.args.source _ h c.take_capture.ensures.keeps c.take_capture.ensures.place c.in_err-capture.ensures.err c.in_err-capture.ensures.stops refl)
+
+pub returns-in_err-put_report : goal.returns-in_err-put_report
+returns-in_err-put_report g c =
+    let p = err_from_is_err_and c.from_residual-in_err-put_report.result c.from_residual-in_err-put_report.ensures.1 in
+    rw (p.1, p.2)
+    (λ v name h.
+    taken v _ _ _ name _ c.in_ok-capture.capture _ _ _ c.args.source _ h c.take_capture.ensures.keeps c.take_capture.ensures.place c.in_ok-capture.ensures.taken c.in_ok-capture.ensures.ok
+    (report_front _ _ _ _ _ _ c.in_ok-capture.capture _
+    (front_as _ _ _ _ _ _ _ _ c.as_slice.ensures (c.in_err-put_report.ensures.err c.args.model.wheel.parts c.requires.built (record { wheel = c.requires.fresh.wheel; stands = c.requires.fresh.stands })))
+    c.in_err-put_report.ensures.kinds (rises _ _ c.in_err-put_report.field-0.0 _ c.in_err-put_report.ensures.later c.in_err-put_report.ensures.write c.in_err-put_report.ensures.quiet) (λ is still. c.in_err-put_report.ensures.calm still (ap Err is)) c.in_err-put_report.ensures.steady))
+
+pub returns : goal.returns
+returns g c =
+    rw (c.ended.ensures)
+    (λ v name h.
+    taken v _ _ _ name _ c.in_ok-capture.capture _ _ _ c.args.source _ h c.take_capture.ensures.keeps c.take_capture.ensures.place c.in_ok-capture.ensures.taken c.in_ok-capture.ensures.ok
+    (report_whole _ _ _ _ _ _ c.in_ok-capture.capture
+    (whole_as _ _ _ _ _ _ _ c.as_slice.ensures (c.in_ok-put_report.ensures.ok c.args.model.wheel.parts (record { wheel = c.requires.fresh.wheel; stands = c.requires.fresh.stands })))
+    (c.in_ok-put_report.ensures.quiet (λ is. cc)) c.in_ok-put_report.ensures.steady))
