@@ -17,22 +17,6 @@ fn number_in(words: &str) -> u64 {
         .unwrap_or(0)
 }
 
-/// Puts the tap of a word behind the others. Words for no tap put none.
-fn add(alloc: Global, word: &str, taps: &mut Vec<Box<dyn Tap>>) -> Result<(), AllocError> {
-    if word == "tally" {
-        taps.push(Box::new(alloc, Tally::new(alloc))?)?;
-    } else if word == "first" {
-        taps.push(Box::new(alloc, FirstFix::new(alloc))?)?;
-    } else if word.starts_with("stop") {
-        taps.push(Box::new(alloc, StopAfter::new(alloc, number_in(word)))?)?;
-    } else if word.starts_with("memory") {
-        taps.push(Box::new(alloc, Wanting::new(alloc, number_in(word)))?)?;
-    } else if word == "close memory" {
-        taps.push(Box::new(alloc, Wanting::new(alloc, 0))?)?;
-    }
-    Ok(())
-}
-
 /// What is told of words over a wheel and a capture, where notes is a stream that takes so many bytes.
 fn told_of_narrow(
     alloc: Global,
@@ -53,19 +37,15 @@ fn told_of_narrow(
     format!(in alloc; "{text} / {status:?} {said}")
 }
 
-/// What is told of words over a wheel and a capture with taps, whose words have commas between them, where a call fails, or notes is a
-/// stream that has room for so many bytes.
-pub fn told_of_taps(
+/// What is told of words over a wheel and a capture with these taps, where a call fails, or notes is a stream that has room for so many
+/// bytes.
+fn told_over(
     alloc: Global,
-    asked: &str,
     words: &str,
     failing: &str,
     files: (&[u8], &[u8]),
+    taps: Vec<Box<dyn Tap>>,
 ) -> Result<Option<String>, AllocError> {
-    let mut taps: Vec<Box<dyn Tap>> = Vec::new(alloc);
-    for word in asked.split(',') {
-        add(alloc, word.trim(), &mut taps)?;
-    }
     if let Some(room) = failing.strip_prefix("notes room ") {
         let Ok(room) = room.parse::<u64>() else {
             return Ok(None);
@@ -76,4 +56,33 @@ pub fn told_of_taps(
     let text = String::from_utf8_lossy(alloc, outcome.out.bytes())?;
     let end = ending(alloc, outcome.status, &outcome.notes)?;
     Ok(Some(format!(in alloc; "{text} / {end}")?))
+}
+
+/// What is told of words over a wheel and a capture with taps, whose words have commas between them.
+pub fn told_of_taps(
+    alloc: Global,
+    asked: &str,
+    words: &str,
+    failing: &str,
+    files: (&[u8], &[u8]),
+) -> Result<Option<String>, AllocError> {
+    let mut taps: Vec<Box<dyn Tap>> = Vec::new(alloc);
+    for word in asked.split(',') {
+        let word = word.trim();
+        let number = number_in(word);
+        if word == "tally" {
+            taps.push(Box::new(alloc, Tally::new(alloc))?)?;
+        } else if word == "first" {
+            taps.push(Box::new(alloc, FirstFix::new(alloc))?)?;
+        } else if word.starts_with("stop") {
+            taps.push(Box::new(alloc, StopAfter::new(alloc, number))?)?;
+        } else if word.starts_with("memory") {
+            taps.push(Box::new(alloc, Wanting::new(alloc, number))?)?;
+        } else if word == "close memory" {
+            taps.push(Box::new(alloc, Wanting::new(alloc, 0))?)?;
+        } else if !word.is_empty() {
+            return Ok(None);
+        }
+    }
+    told_over(alloc, words, failing, files, taps)
 }
