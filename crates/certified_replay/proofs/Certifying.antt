@@ -178,6 +178,7 @@ stops_reading v x capture cert source slot (cause.Limit limit.File) b apart s = 
     too_long_by v.file capture (v.file capture) refl (b.there told) (subst (λ (l : List ℕ). 2 ^ 28 < length l) (left_begun v x capture cert source slot b apart told) (s (b.touches.tells ∙ told)))
 stops_reading v x capture cert source slot (cause.Limit limit.Places) b apart s = absurd s
 stops_reading v x capture cert source slot (cause.Limit (limit.States n)) b apart s = absurd s
+stops_reading v x capture cert source slot (cause.Limit limit.Edges) b apart s = absurd s
 stops_reading v x capture cert source slot (cause.Refused r) b apart s = absurd s
 stops_reading v x capture cert source slot cause.Usage b apart s = absurd s
 stops_reading v x capture cert source slot cause.WriteFault b apart s = absurd s
