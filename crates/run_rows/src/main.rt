@@ -7,7 +7,10 @@
 //! what it has before, and the file beside the program that has the wheel's image. A blank stands between two words, `~` for a blank in a word, and `�` in a file for
 //! the byte 255, which no text has. `long | WHEEL | CAPTURE | 9 × ROWS` is a replay of a capture that goes on with nine copies of rows,
 //! in which `%` stands for the copy's number from 0: how many lines the report has, and the last of them. `certified | WORDS | FAILING |
-//! WHEEL | CAPTURE` is a replay that makes the file `cert`: what out got, what that file has, and how it ended.
+//! WHEEL | CAPTURE` is a replay that makes the file `cert`: what out got, what that file has, and how it ended. `table | WORDS | FAILING |
+//! IMAGE | CHANGES | CAPTURE` are words over the file `image`, which has what the file beside the program has, but for changes such as
+//! `956=3` (a byte), `first=100` (no more bytes) and `more=0` (one byte more), and over the file `capture`. `stimulus | WHEEL | FORM SEED
+//! GAPS` makes a stimulus and replays it: how many lines the report has, how many are lost, and how it ended.
 #![tactic(auto)]
 
 mod certificates;
@@ -17,7 +20,9 @@ mod images;
 mod long;
 mod memory;
 mod prefixes;
+mod stimuli;
 mod streams;
+mod tables;
 
 use certificates::told_of_certified;
 use checks::told_of_check;
@@ -29,7 +34,9 @@ use prefixes::told_of_prefixes;
 use rows::{Tells, check};
 use std::alloc::{AllocError, Global};
 use std::io;
+use stimuli::told_of_stimulus;
 use streams::told_of_stream;
+use tables::told_of_table;
 
 /// Tells what a run leaves: what out got, the status, and what notes got.
 #[derive(Drop)]
@@ -41,6 +48,9 @@ impl Tells for Runs<'_> {
     fn told(&self, alloc: Global, fields: &[String]) -> Result<Option<String>, AllocError> {
         match fields {
             [words, report] => told_of_files(self.rt, words, report),
+            [kind, wheel, asked] if kind.as_str() == "stimulus" => {
+                told_of_stimulus(alloc, wheel, asked)
+            }
             [kind, wheel, capture] => {
                 let files = (bytes_of(alloc, wheel)?, bytes_of(alloc, capture)?);
                 told_of_kind(alloc, kind, (&files.0, &files.1))
@@ -61,6 +71,9 @@ impl Tells for Runs<'_> {
             }
             [words, failing, wheel, before, wanted] => {
                 told_of_image(self.rt, words, failing, [wheel, before, wanted])
+            }
+            [kind, words, failing, image, changes, capture] if kind.as_str() == "table" => {
+                told_of_table(self.rt, words, failing, [image, changes, capture])
             }
             [words, failing, wheel, capture, report, cert] => {
                 told_of_check(alloc, words, failing, [wheel, capture, report, cert])
