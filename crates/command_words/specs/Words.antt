@@ -7,7 +7,8 @@ use Rattle.command_words.specs.Options.{Options}
 use Rattle.command_words.specs.Numbers.{seed_of, gaps_of, form_of}
 use Rattle.command_words.specs.Same.{same, is_operand}
 use Rattle.command_words.specs.Spoken.{silence, after_words}
-pub use Rattle.command_words.specs.Orders.{Order, Replay, Import, Size, Compile, Check, Audit, Trace, Stim, SelfTest, order_of, AreApart, writes_of}
+pub use Rattle.command_words.specs.Orders.{Order, Replay, Import, Size, Compile, Check, Audit, Trace, Stim, SelfTest}
+pub use Rattle.command_words.specs.Orders.{order_of, AreApart, writes_of}
 
 -- whether the file names of a replay differ: the model's, the capture's and, where it is given, the certificate's
 abbrev pub apart : (model capture : List ℕ) → (cert : Option (List ℕ)) → Bool
@@ -58,7 +59,8 @@ audit_by (image ∷ []) = if is_operand image then Some (Audit image) else None
 audit_by words = None
 
 -- the trace of two files of different names, where there is no third operand, no file is to get a certificate and no option wants a value
-abbrev pub trace_of : Option (List ℕ) → Option (List ℕ) → Option (List ℕ) → (made : Option (List ℕ)) → Options → Option Wanted → Option Order
+abbrev pub trace_of : (image capture third made : Option (List ℕ)) →
+    Options → Option Wanted → Option Order
 trace_of (Some image) (Some capture) None None options None = if not (same image capture) then Some (Trace image capture options) else None
 trace_of first second third made options wants = None
 

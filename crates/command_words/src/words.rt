@@ -1,7 +1,8 @@
 //! The words of a command.
 ghost use Rattle.std.specs.Prelude.{◌≡◌, ◌≢◌, IsTrue, IfSome, map, string_bytes};
 ghost use Rattle.std.specs.Option.{option_map};
-ghost use Rattle.command_words.specs.Words.{command_of, replay_by, import_by, size_by, compile_by, check_by, audit_by, trace_by, apart, differ, order_of, AreApart};
+ghost use Rattle.command_words.specs.Words.{command_of, replay_by, import_by, size_by, compile_by, check_by, audit_by, trace_by};
+ghost use Rattle.command_words.specs.Words.{apart, differ, order_of, AreApart};
 
 use crate::numbers::Form;
 use crate::options::Options;
