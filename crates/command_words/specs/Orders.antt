@@ -1,5 +1,5 @@
 -- Orders: commands with the texts of their operands.
-use Rattle.std.specs.Prelude.{ℕ, ◌≢◌, ⊤, List, Some, None, option_map}
+use Rattle.std.specs.Prelude.{ℕ, ◌≢◌, ◌≤◌, ⊤, List, Some, None, option_map}
 use Rattle.std.specs.declared.option.Option.{Option}
 use Rattle.command_words.specs.declared.words.Command.{Command}
 use Rattle.command_words.specs.declared.words.Command.TheVariants as command
@@ -34,6 +34,17 @@ order_of (command.SelfTest wheel seed gaps) = SelfTest wheel.now seed gaps
 abbrev pub AreApart : Order → Type 0
 AreApart (Replay model capture (Some cert) options) = (model ≢ cert) × (capture ≢ cert)
 AreApart order = ⊤
+
+-- the gaps of a stimulus are from one to a million
+pub record HasGaps (gaps : ℕ) : Type 0 where
+  pub some : 1 ≤ gaps
+  pub most : gaps ≤ 1000000
+
+-- so are those that an order asks for
+abbrev pub AsksGaps : Order → Type 0
+AsksGaps (Stim wheel form seed gaps file) = HasGaps gaps
+AsksGaps (SelfTest wheel seed gaps) = HasGaps gaps
+AsksGaps order = ⊤
 
 -- the file that an order's command writes, where it writes one
 abbrev pub writes_of : Order → Option (List ℕ)

@@ -8,7 +8,7 @@ use Rattle.command_words.specs.Numbers.{seed_of, gaps_of, form_of}
 use Rattle.command_words.specs.Same.{same, is_operand}
 use Rattle.command_words.specs.Spoken.{silence, after_words}
 pub use Rattle.command_words.specs.Orders.{Order, Replay, Import, Size, Compile, Check, Audit, Trace, Stim, SelfTest}
-pub use Rattle.command_words.specs.Orders.{order_of, AreApart, writes_of}
+pub use Rattle.command_words.specs.Orders.{order_of, AreApart, HasGaps, AsksGaps, writes_of}
 
 -- whether the file names of a replay differ: the model's, the capture's and, where it is given, the certificate's
 abbrev pub apart : (model capture : List ℕ) → (cert : Option (List ℕ)) → Bool

@@ -1,6 +1,7 @@
 //! Words that are numbers, and those that name a form of a capture.
-ghost use Rattle.std.specs.Prelude.{◌≡◌, ◌≤◌, ◌^◌};
+ghost use Rattle.std.specs.Prelude.{◌≡◌, ◌≤◌, ◌^◌, IfSome};
 ghost use Rattle.command_words.specs.Numbers.{number_of, seed_of, gaps_of, form_of};
+ghost use Rattle.command_words.specs.Orders.{HasGaps};
 
 use capture_core::{all_digits, number_within};
 
@@ -18,7 +19,9 @@ const MOST_GAPS: u64 = 1_000_000;
 
 /// The number that a word of digits alone spells, where it is from `least` to `most`.
 fn number_between(word: &str, least: u64, most: u64) -> Option<u64>
-    ensures { result ≡ number_of least most word.now }
+    ensures number { result ≡ number_of least most word.now }
+    ensures least { IfSome result (λ number. least ≤ number) }
+    ensures most { IfSome result (λ number. number ≤ most) }
 {
     let bytes = word.as_bytes();
     if bytes.is_empty() || !all_digits(bytes) {
@@ -39,7 +42,8 @@ pub fn seed_in(word: &str) -> Option<u64>
 
 /// How many gaps a word asks for.
 pub fn gaps_in(word: &str) -> Option<u32>
-    ensures { result ≡ gaps_of word.now }
+    ensures gaps { result ≡ gaps_of word.now }
+    ensures range { IfSome result HasGaps }
 {
     match number_between(word, 1, MOST_GAPS) {
         Some(gaps) => Some(gaps as u32),

@@ -1,7 +1,7 @@
 //! The words of commands that make a stimulus.
-ghost use Rattle.std.specs.Prelude.{◌≡◌, map, string_bytes};
+ghost use Rattle.std.specs.Prelude.{◌≡◌, IfSome, map, string_bytes};
 ghost use Rattle.std.specs.Option.{option_map};
-ghost use Rattle.command_words.specs.Words.{stim_by, self_by, order_of};
+ghost use Rattle.command_words.specs.Words.{stim_by, self_by, order_of, AsksGaps};
 
 use crate::numbers::{form_in, gaps_in, seed_in};
 use crate::spoken::is_operand;
@@ -9,7 +9,8 @@ use crate::words::Command;
 
 /// The stimulus that its words ask for.
 pub fn read_stim(words: &[String]) -> Option<Command<'_>>
-    ensures { option_map order_of result ≡ stim_by (map string_bytes words.now) }
+    ensures order { option_map order_of result ≡ stim_by (map string_bytes words.now) }
+    ensures gaps { IfSome result (λ command. AsksGaps (order_of command)) }
 {
     let [wheel, form, seed, gaps, file] = words else {
         return None;
@@ -33,7 +34,8 @@ pub fn read_stim(words: &[String]) -> Option<Command<'_>>
 
 /// The self-test that its words ask for.
 pub fn read_self_test(words: &[String]) -> Option<Command<'_>>
-    ensures { option_map order_of result ≡ self_by (map string_bytes words.now) }
+    ensures order { option_map order_of result ≡ self_by (map string_bytes words.now) }
+    ensures gaps { IfSome result (λ command. AsksGaps (order_of command)) }
 {
     let [wheel, seed, gaps] = words else {
         return None;

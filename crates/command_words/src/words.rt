@@ -2,7 +2,7 @@
 ghost use Rattle.std.specs.Prelude.{◌≡◌, ◌≢◌, IsTrue, IfSome, map, string_bytes};
 ghost use Rattle.std.specs.Option.{option_map};
 ghost use Rattle.command_words.specs.Words.{command_of, replay_by, import_by, size_by, compile_by, check_by, audit_by, trace_by};
-ghost use Rattle.command_words.specs.Words.{apart, differ, order_of, AreApart};
+ghost use Rattle.command_words.specs.Words.{apart, differ, order_of, AreApart, AsksGaps};
 
 use crate::numbers::Form;
 use crate::options::Options;
@@ -83,6 +83,7 @@ fn are_apart(model: &str, capture: &str, cert: Option<&str>) -> bool
 /// The replay that its words give.
 fn read_replay(words: &[String]) -> Option<Command<'_>>
     ensures order { option_map order_of result ≡ replay_by (map string_bytes words.now) }
+    ensures gaps { IfSome result (λ command. AsksGaps (order_of command)) }
     ensures apart { IfSome result (λ command. AreApart (order_of command)) }
 {
     let spoken = match hear(words) {
@@ -119,7 +120,8 @@ fn all_differ(a: &str, b: &str, c: &str, d: &str) -> bool
 
 /// The check that its words give.
 fn read_check(words: &[String]) -> Option<Command<'_>>
-    ensures { option_map order_of result ≡ check_by (map string_bytes words.now) }
+    ensures order { option_map order_of result ≡ check_by (map string_bytes words.now) }
+    ensures gaps { IfSome result (λ command. AsksGaps (order_of command)) }
 {
     let spoken = match hear(words) {
         Some(spoken) => spoken,
@@ -147,7 +149,8 @@ fn read_check(words: &[String]) -> Option<Command<'_>>
 
 /// The import that its words give.
 fn read_import(words: &[String]) -> Option<Command<'_>>
-    ensures { option_map order_of result ≡ import_by (map string_bytes words.now) }
+    ensures order { option_map order_of result ≡ import_by (map string_bytes words.now) }
+    ensures gaps { IfSome result (λ command. AsksGaps (order_of command)) }
 {
     let [source, name] = words else {
         return None;
@@ -162,7 +165,8 @@ fn read_import(words: &[String]) -> Option<Command<'_>>
 
 /// The size that its words ask for.
 fn read_size(words: &[String]) -> Option<Command<'_>>
-    ensures { option_map order_of result ≡ size_by (map string_bytes words.now) }
+    ensures order { option_map order_of result ≡ size_by (map string_bytes words.now) }
+    ensures gaps { IfSome result (λ command. AsksGaps (order_of command)) }
 {
     let [wheel] = words else {
         return None;
@@ -177,7 +181,8 @@ fn read_size(words: &[String]) -> Option<Command<'_>>
 
 /// The compile that its words give.
 fn read_compile(words: &[String]) -> Option<Command<'_>>
-    ensures { option_map order_of result ≡ compile_by (map string_bytes words.now) }
+    ensures order { option_map order_of result ≡ compile_by (map string_bytes words.now) }
+    ensures gaps { IfSome result (λ command. AsksGaps (order_of command)) }
 {
     let [wheel, image] = words else {
         return None;
@@ -192,7 +197,8 @@ fn read_compile(words: &[String]) -> Option<Command<'_>>
 
 /// The audit that its words ask for.
 fn read_audit(words: &[String]) -> Option<Command<'_>>
-    ensures { option_map order_of result ≡ audit_by (map string_bytes words.now) }
+    ensures order { option_map order_of result ≡ audit_by (map string_bytes words.now) }
+    ensures gaps { IfSome result (λ command. AsksGaps (order_of command)) }
 {
     let [image] = words else {
         return None;
@@ -207,7 +213,8 @@ fn read_audit(words: &[String]) -> Option<Command<'_>>
 
 /// The trace that its words give.
 fn read_trace(words: &[String]) -> Option<Command<'_>>
-    ensures { option_map order_of result ≡ trace_by (map string_bytes words.now) }
+    ensures order { option_map order_of result ≡ trace_by (map string_bytes words.now) }
+    ensures gaps { IfSome result (λ command. AsksGaps (order_of command)) }
 {
     let spoken = match hear(words) {
         Some(spoken) => spoken,
@@ -238,6 +245,7 @@ fn read_trace(words: &[String]) -> Option<Command<'_>>
 pub fn read_command(words: &[String]) -> Option<Command<'_>>
     ensures order { option_map order_of result ≡ command_of (map string_bytes words.now) }
     ensures apart { IfSome result (λ command. AreApart (order_of command)) }
+    ensures gaps { IfSome result (λ command. AsksGaps (order_of command)) }
 {
     let Some((command, operands)) = words.split_first() else {
         return None;
