@@ -37,7 +37,7 @@ pub fn view_of(bytes: &[u8]) -> Result<View<'_>, Cause>
 ///
 /// # Errors
 /// Want of memory.
-pub fn watched(alloc: Global, view: &View<'_>) -> Result<Watched, Memory>
+pub fn watched_wheel(alloc: Global, view: &View<'_>) -> Result<Watched, Memory>
     ensures wheel { IfOk result (λ watched. watched.wheel.parts ≡ wheel_parts_of view.now.bytes.now) }
     ensures edges { IfOk result (λ watched. AreEdgesOf watched.wheel.parts watched.edges) }
 {

@@ -4,7 +4,7 @@ ghost use Rattle.command_words.specs.Options.{options_of};
 ghost use Rattle.run_ends.specs.Serving.{Served, stream};
 ghost use Rattle.image_commands.specs.Trace.{IsTrace};
 
-use crate::images::{view_of, watched};
+use crate::images::{view_of, watched_wheel};
 use crate::put::put_trace;
 use command_words::Options;
 use named_captures::load_clean;
@@ -29,11 +29,18 @@ pub fn trace_file<S: Shelf, O: Sink>(
 {
     let bytes = load(alloc, shelf, image)?;
     let view = view_of(&bytes)?;
-    let watched = match watched(alloc, &view) {
+    let watched = match watched_wheel(alloc, &view) {
         Ok(watched) => watched,
         Err(Memory) => return Err(Cause::Memory),
     };
-    let capture = load_clean(alloc, shelf, capture, options, &watched.wheel, &watched.edges)?;
+    let capture = load_clean(
+        alloc,
+        shelf,
+        capture,
+        options,
+        &watched.wheel,
+        &watched.edges,
+    )?;
     put_trace(alloc, out, view, capture.instants.as_slice())?;
     Ok(Done::Whole)
 }
