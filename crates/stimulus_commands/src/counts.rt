@@ -1,5 +1,5 @@
 //! How many verdicts of each kind there are.
-ghost use Rattle.std.specs.Prelude.{◌≡◌, ◌≤◌, ◌<◌, ◌+◌, ◌++◌, ◌∷◌, ◌^◌, [], List, None, IfOk, reverse, string_bytes};
+ghost use Rattle.std.specs.Prelude.{◌≡◌, ◌≢◌, ◌≤◌, ◌<◌, ◌+◌, ◌++◌, ◌∷◌, ◌^◌, [], List, None, IfOk, reverse, string_bytes};
 ghost use Rattle.wheel_types.specs.declared.parts.WheelParts.{WheelParts};
 ghost use Rattle.wheel_types.specs.declared.verdict.Verdict.{Verdict as Judgement};
 ghost use Rattle.wheel_types.specs.Verdicts.{AreWithin, IsRising};
@@ -22,6 +22,14 @@ pub struct Counts {
     pub first: u64,
 }
 
+/// The number of the first that is at a position, where one more is that has this number.
+fn first_of(first: u64, number: u64) -> u64
+    ensures none { first ≡ 0 → result ≡ number }
+    ensures some { first ≢ 0 → result ≡ first }
+{
+    if first == 0 { number } else { first }
+}
+
 /// Counts the verdict of one more instant.
 fn count(counts: Counts, verdict: Verdict) -> Counts
     requires room { counts.instants + 1 < 2 ^ 64 }
@@ -32,15 +40,12 @@ fn count(counts: Counts, verdict: Verdict) -> Counts
 {
     let instants = counts.instants + 1;
     match verdict {
-        Verdict::At { .. } => {
-            let first = if counts.first == 0 { instants } else { counts.first };
-            Counts {
-                instants,
-                at: counts.at + 1,
-                first,
-                ..counts
-            }
-        }
+        Verdict::At { .. } => Counts {
+            instants,
+            at: counts.at + 1,
+            first: first_of(counts.first, instants),
+            ..counts
+        },
         Verdict::Open { .. } => Counts {
             instants,
             left_open: counts.left_open + 1,
