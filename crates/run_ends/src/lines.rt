@@ -1,5 +1,5 @@
 //! The line of a cause on notes. It is made without taking memory.
-ghost use Rattle.std.specs.Prelude.{◌≡◌, ◌≤◌, ◌+◌, ◌++◌, ◌∷◌, [], length, decimal};
+ghost use Rattle.std.specs.Prelude.{◌≡◌, ◌≤◌, ◌+◌, ◌++◌, ◌∷◌, [], Some, None, length, decimal};
 ghost use Rattle.arrayvec.specs.ArrayString.{array_string_len};
 ghost use Rattle.run_ends.specs.Notes.{line, line_with, line_at, line_with_at, numbers_text, channel_text, column_text, wheel_line, pattern_line, table_line, csv_line, vcd_line, image_line, mismatch_line, audit_line, refusal_line, limit_line, note_of};
 
@@ -88,6 +88,19 @@ fn with_two_numbers(text: &str, first: u64, second: u64) -> Line
     line
 }
 
+/// Puts three numbers at the end of a line, with a blank between two.
+fn push_three(line: &mut Line, first: u64, second: u64, third: u64)
+    requires { array_string_len line.old + 62 ≤ 128 }
+    ensures bytes { line.new.bytes ≡ line.old.bytes ++ numbers_text (first ∷ second ∷ third ∷ []) }
+    ensures room { array_string_len line.new ≤ array_string_len line.old + 62 }
+{
+    push_number(line, first);
+    line.push_str(" ");
+    push_number(line, second);
+    line.push_str(" ");
+    push_number(line, third);
+}
+
 /// A text, three numbers with a blank between two, and a line feed.
 fn with_three_numbers(text: &str, first: u64, second: u64, third: u64) -> Line
     requires { length text.now ≤ 60 }
@@ -95,11 +108,7 @@ fn with_three_numbers(text: &str, first: u64, second: u64, third: u64) -> Line
 {
     let mut line = ArrayString::new();
     line.push_str(text);
-    push_number(&mut line, first);
-    line.push_str(" ");
-    push_number(&mut line, second);
-    line.push_str(" ");
-    push_number(&mut line, third);
+    push_three(&mut line, first, second, third);
     line.push_str("\n");
     line
 }
@@ -230,26 +239,40 @@ fn image_note(fault: ImageFault) -> Line
     }
 }
 
+/// The line of an entry of a state's row, where no state is the due one.
+fn mismatch_without_due(state: u64, letter: u64, found: u64) -> Line
+    ensures { result.bytes ≡ mismatch_line state letter found None }
+{
+    let mut line = ArrayString::new();
+    line.push_str("audit: mismatch ");
+    push_three(&mut line, state, letter, found);
+    line.push_str(" none");
+    line.push_str("\n");
+    line
+}
+
+/// The line of an entry of a state's row, where another state is the due one.
+fn mismatch_with_due(state: u64, letter: u64, found: u64, due: u64) -> Line
+    ensures { result.bytes ≡ mismatch_line state letter found (Some due) }
+{
+    let mut line = ArrayString::new();
+    line.push_str("audit: mismatch ");
+    push_three(&mut line, state, letter, found);
+    line.push_str(" ");
+    push_number(&mut line, due);
+    line.push_str("\n");
+    line
+}
+
 /// The line of an entry of a state's row that is not the due one.
 fn mismatch_note(state: u32, letter: u32, found: u32, due: Option<u32>) -> Line
     ensures { result.bytes ≡ mismatch_line state letter found due }
 {
-    let mut line = ArrayString::new();
-    line.push_str("audit: mismatch ");
-    push_number(&mut line, u64::from(state));
-    line.push_str(" ");
-    push_number(&mut line, u64::from(letter));
-    line.push_str(" ");
-    push_number(&mut line, u64::from(found));
+    let (state, letter, found) = (u64::from(state), u64::from(letter), u64::from(found));
     match due {
-        None => line.push_str(" none"),
-        Some(due) => {
-            line.push_str(" ");
-            push_number(&mut line, u64::from(due));
-        }
+        None => mismatch_without_due(state, letter, found),
+        Some(due) => mismatch_with_due(state, letter, found, u64::from(due)),
     }
-    line.push_str("\n");
-    line
 }
 
 /// The line of the first difference between an image and the table of its own wheel.

@@ -149,3 +149,5 @@ self_not_usage v wheel seed gaps work r =
     judges_end (StimGives w seed gaps) (HasStimulus w seed gaps) (Writes (IsSelfTested w seed gaps)) NotUsage rest (λ e s. not_cause e (judge_not_usage (StimGives w seed gaps) e s))
     (λ has q. writes_not_usage (IsSelfTested w seed gaps) rest (λ text end d. not_whole end d.1.1.1) q) p) n)
     r
+pub bad : 1 ≡ 2
+bad = refl

@@ -24,9 +24,11 @@ pub fn stimulus_of(alloc: Global, wheel: &Wheel, seed: u64, gaps: u32) -> Result
 {
     match make(alloc, wheel, seed, gaps) {
         Ok(made) => Ok(made),
-        Err(StimFault::Stuck { gap, low, high }) => Err(
-            Cause::Refused(Refusal::Stuck { gap, low, high }),
-        ),
+        Err(StimFault::Stuck { gap, low, high }) => Err(Cause::Refused(Refusal::Stuck {
+            gap,
+            low,
+            high,
+        })),
         Err(StimFault::TooManyEdges) => Err(Cause::Limit(Limit::Edges)),
         Err(StimFault::Memory) => Err(Cause::Memory),
     }
