@@ -74,6 +74,7 @@ def bash(commands):
     cases = ["        %s) words=%s ;;" % (it.name, '"%s"' % " ".join((*it.options, "--help"))) for it in commands]
     choice = '        %s.%d) COMPREPLY=($(compgen -W "%s" -- "$word")); return ;;'
     choices = [choice % (it.name, at, " ".join(words)) for it in commands for at, words in it.choices.items()]
+    free = ["%s.%d" % (it.name, at) for it in commands for at, word in enumerate(it.operands, 2) if word in FREE]
     return "\n".join([
         "# Completion of wheelsync for bash: source this file. Made by bench/pages.py.",
         "_wheelsync() {",
@@ -87,7 +88,7 @@ def bash(commands):
         "    esac",
         "    case ${COMP_WORDS[1]}.$COMP_CWORD in",
         *choices,
-        "        %s) return ;;" % " | ".join("%s.%d" % (it.name, at) for it in commands for at, word in enumerate(it.operands, 2) if word in FREE),
+        "        %s) return ;;" % " | ".join(free),
         "    esac",
         "    case $word in",
         '        -*) COMPREPLY=($(compgen -W "$words" -- "$word")) ;;',
