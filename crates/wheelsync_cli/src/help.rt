@@ -241,7 +241,7 @@ than 4000000 edges. At 1, 2, 3 and 6 no file changes; at 4 and 5 a file that was
 made has the first part of the capture.
 ";
 
-const SELF: &[u8] = b"wheelsync self WHEEL SEED GAPS
+const SELF_TEST: &[u8] = b"wheelsync self WHEEL SEED GAPS
     replay an engine that stim draws, and count the verdicts
 
 The engine is the one that stim draws of the same wheel, seed and number of
@@ -274,7 +274,7 @@ fn page_of(command: &str) -> Option<&'static [u8]> {
         "trace" => Some(TRACE),
         "check" => Some(CHECK),
         "stim" => Some(STIM),
-        "self" => Some(SELF),
+        "self" => Some(SELF_TEST),
         _ => None,
     }
 }
