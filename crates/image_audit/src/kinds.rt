@@ -6,7 +6,7 @@ ghost use Rattle.table_images.specs.Kinds.{AreSets};
 ghost use Rattle.image_audit.specs.Agreements.{AgreesInStates, AgreesInKinds};
 ghost use Rattle.image_audit.specs.Differences.{IsFirst};
 
-use crate::fault::AuditFault;
+use audit_faults::AuditFault;
 use crate::states::numbered;
 use image_format::View;
 use indexmap::IndexSet;

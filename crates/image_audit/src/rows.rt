@@ -13,7 +13,7 @@ ghost use Rattle.table_images.specs.Kinds.{AreSets};
 ghost use Rattle.image_audit.specs.Agreements.{EntriesTo, AgreesInKinds, AgreesInRows};
 ghost use Rattle.image_audit.specs.Differences.{IsDueNumber, IsFirst};
 
-use crate::fault::AuditFault;
+use audit_faults::AuditFault;
 use crate::start::empty_words;
 use crate::states::numbered;
 use image_format::View;

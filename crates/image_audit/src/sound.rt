@@ -9,7 +9,7 @@ ghost use Rattle.image_audit.specs.Agreements.{Agrees};
 ghost use Rattle.image_audit.specs.Differences.{IsFirst};
 ghost use Rattle.image_audit.specs.Audits.{IsAuditFault};
 
-use crate::fault::AuditFault;
+use audit_faults::AuditFault;
 use crate::kinds::check_kinds;
 use crate::lists::check_lists;
 use crate::reach::check_reached;

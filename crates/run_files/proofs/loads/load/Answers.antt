@@ -3,7 +3,7 @@ use Rattle.shelf_io.specs.declared.fault.LoadFault.TheVariants as load
 use Rattle.run_ends.proofs.Loading.{stays}
 use Rattle.run_ends.proofs.Noting.{rose_before}
 use Rattle.run_files.proofs.Decoding.{has_read, too_long, not_failed}
-use Rattle.run_files.proofs.load.load.Goals as goal
+use Rattle.run_files.proofs.loads.load.Goals as goal
 
 pub returns-in-Err-Failed-read_all : goal.returns-in-Err-Failed-read_all
 returns-in-Err-Failed-read_all g c =

@@ -13,8 +13,11 @@ use std::alloc::Global;
 use wheel_pattern::{TableFault, read_table};
 use wheel_types::Memory;
 
-/// Reads a file by its name.
-pub(crate) fn load<S: Shelf>(alloc: Global, shelf: &mut S, name: &str) -> Result<Vec<u8>, Cause>
+/// Reads a file whole by its name.
+///
+/// # Errors
+/// `ReadFault`, `Limit::File` past 2^28 bytes, or `Memory`.
+pub fn load<S: Shelf>(alloc: Global, shelf: &mut S, name: &str) -> Result<Vec<u8>, Cause>
     ensures { Loads (S.view shelf.old) (S.view shelf.old) (S.view shelf.new) name.now (FileGives (S.view shelf.old).file name.now) (λ bytes. Holds (S.view shelf.old).file name.now bytes.items) result }
 {
     let slot = match shelf.open(name) {

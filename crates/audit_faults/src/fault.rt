@@ -1,6 +1,6 @@
 //! What is wrong with an image that keeps its layout.
 ghost use Rattle.std.specs.Prelude.{◌≡◌};
-ghost use Rattle.image_audit.specs.declared.fault.AuditFault.TheVariants.{Memory as WantsMemory};
+ghost use Rattle.audit_faults.specs.declared.fault.AuditFault.TheVariants.{Memory as WantsMemory};
 
 use image_layout::Kind;
 use std::alloc::{AllocError, AllocFailed};
