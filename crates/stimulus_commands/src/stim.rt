@@ -5,8 +5,8 @@ ghost use Rattle.run_ends.specs.Works.{StopsJudge};
 ghost use Rattle.stimulus_commands.specs.Stimuli.{HasStimulus, StimGives};
 ghost use Rattle.stimulus_commands.specs.Stim.{IsFileText, IsStim, IsStimText};
 
-use command_words::Form;
 use crate::stimuli::stimulus_of;
+use command_words::Form;
 use run_ends::{Cause, Done, make_file};
 use run_files::load_any_wheel;
 use shelf_io::Shelf;
