@@ -9,7 +9,7 @@ use Rattle.std.proofs.lemmas.List.{length-append}
 use Rattle.std.proofs.lemmas.List.Sums.{sum_by_push, prefix_len-le-length, count_by-le-length}
 use Rattle.std.proofs.lemmas.List.Folds.{position_or_len_push}
 use Rattle.wheel_types.specs.declared.verdict.Verdict.{Verdict}
-use Rattle.wheel_types.specs.declared.verdict.Verdict.TheVariants.{At, Open, Lost}
+use Rattle.wheel_types.specs.declared.verdict.Verdict.TheVariants.{At}
 use Rattle.stimulus_commands.specs.declared.counts.Counts.{Counts}
 use Rattle.stimulus_commands.specs.CountsOf.{is_at, is_open, is_lost, number_of, counts_of}
 

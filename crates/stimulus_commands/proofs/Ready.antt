@@ -1,5 +1,5 @@
 -- Over a wheel that is accepted and a steady shelf the commands are done, or want memory, or a write fails.
-use Rattle.std.proofs.Common.{◌≡◌, ℕ, ◌<◌, ◌≤◌, ◌⊎◌, inl, inr, List, Result, Ok, Err, refl, sym, ◌∙◌, subst, ap, arith}
+use Rattle.std.proofs.Common.{◌≡◌, ℕ, ◌<◌, ◌⊎◌, inl, inr, List, Result, Ok, Err, sym, ◌∙◌, subst, arith}
 use Rattle.std.specs.Prelude.{ℤ, ◌≤ℤ◌, ◌<ℤ◌, IsTrue}
 use Rattle.std.proofs.lemmas.Int.{ints}
 use Rattle.shelf_traits.specs.Shelf.{View}
@@ -24,7 +24,7 @@ use Rattle.run_files.specs.Files.{HasWheel, HasPlacedWheel}
 use Rattle.run_files.proofs.Ready.{model_gives_none, wheel_gives_none, file_has_one_wheel}
 use Rattle.table_commands.specs.States.{HasFewStates, FamilyGives}
 use Rattle.table_commands.proofs.OneFamily.{family_gives_none}
-use Rattle.stimulus_commands.specs.declared.form.StimForm.{StimForm}
+use Rattle.command_words.specs.declared.numbers.Form.{Form}
 use Rattle.stimulus_commands.specs.Stimuli.{HasStimulus, StimGives}
 use Rattle.stimulus_commands.specs.Stim.{IsStim, IsStimText}
 use Rattle.stimulus_commands.specs.SelfTest.{IsSelfTest, IsSelfTested}
@@ -95,7 +95,7 @@ stop P memory fault (cause.Refused r) s = absurd s
 stop P memory fault (cause.Limit l) s = absurd s
 
 -- over a wheel that has a stimulus and a steady shelf a stim is done, or wants memory, or a write fails
-pub stim_ends : (P : Result Done Cause → Type 0) (v : View) (wheel : List ℕ) (form : StimForm) (seed gaps : ℕ) (file : List ℕ) (w : WheelParts) (work : Work) → IsTrue v.tells → IsTrue v.steady
+pub stim_ends : (P : Result Done Cause → Type 0) (v : View) (wheel : List ℕ) (form : Form) (seed gaps : ℕ) (file : List ℕ) (w : WheelParts) (work : Work) → IsTrue v.tells → IsTrue v.steady
     → HasWheel v.file wheel w → HasStimulus w seed gaps → P (Ok done.Whole) → P (Err cause.Memory) → P (Err cause.WriteFault) → IsStim v wheel form seed gaps file work → P work.end
 stim_ends P v wheel form seed gaps file w work told steady h has whole memory fault r =
     reads_ready v wheel (WheelGives v.file wheel) (HasWheel v.file wheel) (λ w. Judges (StimGives w seed gaps) (HasStimulus w seed gaps) (Makes file (IsStimText w form seed gaps))) P
@@ -129,7 +129,7 @@ abbrev NotUsage : Result Done Cause → Type 0
 NotUsage end = end ≡ Err cause.Usage → ⊥
 
 -- no stim ends for usage
-pub stim_not_usage : (v : View) (wheel : List ℕ) (form : StimForm) (seed gaps : ℕ) (file : List ℕ) (work : Work) → IsStim v wheel form seed gaps file work → work.end ≡ Err cause.Usage → ⊥
+pub stim_not_usage : (v : View) (wheel : List ℕ) (form : Form) (seed gaps : ℕ) (file : List ℕ) (work : Work) → IsStim v wheel form seed gaps file work → work.end ≡ Err cause.Usage → ⊥
 stim_not_usage v wheel form seed gaps file work r =
     reads_not_usage v wheel (WheelGives v.file wheel) (HasWheel v.file wheel) (λ w. Judges (StimGives w seed gaps) (HasStimulus w seed gaps) (Makes file (IsStimText w form seed gaps))) work
     (λ w rest n.
@@ -149,5 +149,3 @@ self_not_usage v wheel seed gaps work r =
     judges_end (StimGives w seed gaps) (HasStimulus w seed gaps) (Writes (IsSelfTested w seed gaps)) NotUsage rest (λ e s. not_cause e (judge_not_usage (StimGives w seed gaps) e s))
     (λ has q. writes_not_usage (IsSelfTested w seed gaps) rest (λ text end d. not_whole end d.1.1.1) q) p) n)
     r
-pub bad : 1 ≡ 2
-bad = refl

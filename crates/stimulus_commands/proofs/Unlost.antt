@@ -1,15 +1,14 @@
 -- A self counts no loss.
-use Rattle.std.proofs.Common.{◌≡◌, ℕ, ◌+◌, true, false, cond, Bool, List, [], ◌∷◌, ◌++◌, reverse, refl, sym, ap, ◌∙◌, arith}
+use Rattle.std.proofs.Common.{◌≡◌, ◌+◌, false, cond, Bool, List, [], ◌∷◌, reverse, refl, ap, ◌∙◌, arith}
 use Rattle.std.specs.Prelude.{◌≢◌, count_by}
 use Rattle.std.specs.List.{AllByRecursion}
 use Rattle.std.proofs.lemmas.List.{reverse-append}
 use Rattle.std.proofs.lemmas.List.Sums.{sum_by_push}
 use Rattle.wheel_types.specs.declared.verdict.Verdict.{Verdict}
 use Rattle.wheel_types.specs.declared.verdict.Verdict.TheVariants.{At, Open, Lost}
-use Rattle.wheel_types.specs.declared.parts.WheelParts.{WheelParts}
 use Rattle.stimulus.proofs.Unlost.{unlost, are_given}
 use Rattle.stimulus_commands.specs.declared.counts.Counts.{Counts}
-use Rattle.stimulus_commands.specs.CountsOf.{is_lost, counts_of}
+use Rattle.stimulus_commands.specs.CountsOf.{is_lost}
 use Rattle.stimulus_commands.specs.Laws.{NoSelfIsLost}
 
 not_lost : (v : Verdict) → v ≢ Lost → is_lost v ≡ false

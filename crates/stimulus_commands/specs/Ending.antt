@@ -10,13 +10,13 @@ use Rattle.run_ends.specs.declared.cause.Cause.TheVariants as cause
 use Rattle.run_ends.specs.Works.{Work, Told, HandsOn}
 use Rattle.run_files.specs.Causes.{WheelGives}
 use Rattle.run_files.specs.Files.{HasWheel}
-use Rattle.stimulus_commands.specs.declared.form.StimForm.{StimForm}
+use Rattle.command_words.specs.declared.numbers.Form.{Form}
 use Rattle.stimulus_commands.specs.Stimuli.{StimGives}
 use Rattle.stimulus_commands.specs.Stim.{IsStim, IsStimText}
 
 -- what is drawn, and how it is written
 pub record Order : Type 0 where
-  pub form : StimForm
+  pub form : Form
   pub seed : ℕ
   pub gaps : ℕ
 
@@ -46,5 +46,5 @@ StimEnds v wheel o (Err e) made = (made ≡ None) × Told v (StimFileGives v.fil
 
 -- every stim ends so, and out gets nothing
 abbrev pub StimsEnd : Type 0
-StimsEnd = (v : View) (wheel file : List ℕ) (form : StimForm) (seed gaps : ℕ) (work : Work) → HandsOn (IsStim v wheel form seed gaps file) work
+StimsEnd = (v : View) (wheel file : List ℕ) (form : Form) (seed gaps : ℕ) (work : Work) → HandsOn (IsStim v wheel form seed gaps file) work
     → (work.out ≡ []) × StimEnds v wheel (record { form = form; seed = seed; gaps = gaps }) work.end work.made

@@ -2,14 +2,12 @@
 #![tactic(auto)]
 
 mod counts;
-mod form;
 mod laws;
 mod stim;
 mod stimuli;
 mod tested;
 
 pub use counts::Counts;
-pub use form::StimForm;
 pub use laws::{no_self_is_lost, selfs_end, stims_end};
 pub use stim::stim_file;
 pub use tested::self_test;

@@ -5,8 +5,8 @@ ghost use Rattle.run_ends.specs.Works.{StopsJudge};
 ghost use Rattle.stimulus_commands.specs.Stimuli.{HasStimulus, StimGives};
 ghost use Rattle.stimulus_commands.specs.Stim.{IsFileText, IsStim, IsStimText};
 
-use crate::StimForm;
 use crate::stimuli::stimulus_of;
+use command_words::Form;
 use run_ends::{Cause, Done, make_file};
 use run_files::load_any_wheel;
 use shelf_io::Shelf;
@@ -15,12 +15,12 @@ use stimulus::Stimulus;
 use wheel_types::{Memory, Wheel};
 
 /// The file of a stimulus, in a form.
-fn text_of(alloc: Global, made: &Stimulus, form: StimForm) -> Result<Vec<u8>, Memory>
+fn text_of(alloc: Global, made: &Stimulus, form: Form) -> Result<Vec<u8>, Memory>
     ensures { IfOk result (λ text. IsFileText form made.now.watch made.now.instants.items text.items) }
 {
     match form {
-        StimForm::Vcd => made.write_vcd(alloc),
-        StimForm::Csv => made.write_csv(alloc),
+        Form::Vcd => made.write_vcd(alloc),
+        Form::Csv => made.write_csv(alloc),
     }
 }
 
@@ -31,7 +31,7 @@ fn text_of(alloc: Global, made: &Stimulus, form: StimForm) -> Result<Vec<u8>, Me
 fn stim_text(
     alloc: Global,
     wheel: &Wheel,
-    form: StimForm,
+    form: Form,
     seed: u64,
     gaps: u32,
 ) -> Result<Vec<u8>, Cause>
@@ -57,7 +57,7 @@ fn stim_text(
 pub fn stim_file<S: Shelf>(
     alloc: Global,
     wheel: &str,
-    form: StimForm,
+    form: Form,
     seed: u64,
     gaps: u32,
     file: &str,
