@@ -1,7 +1,7 @@
-use Rattle.std.proofs.Common.{◌≡◌, ◌∙◌, ap, refl, arith, length}
+use Rattle.std.proofs.Common.{◌∙◌, ap, refl, arith}
 use Rattle.std.proofs.lemmas.Result.{err_from_is_err_and}
 use Rattle.image_format.specs.Walk.{Stand}
-use Rattle.image_commands.proofs.Tracing.{HasTraced, none_traced, next_traced, cut_traced, all_traced}
+use Rattle.image_commands.proofs.Tracing.{none_traced, next_traced, cut_traced, all_traced}
 use Rattle.image_commands.proofs.put.put_trace.Goals as goal
 
 pub loop-number-init : goal.loop-number-init
