@@ -1,5 +1,5 @@
 -- The text that is due for a sound image, and when an image is not audited.
-use Rattle.std.proofs.Common.{◌≡◌, ℕ, List, ◌++◌, Ok, refl, sym, ◌∙◌, ap, subst}
+use Rattle.std.proofs.Common.{◌≡◌, ℕ, List, ◌++◌, Ok, refl, ◌∙◌, ap, subst}
 use Rattle.wheel_types.specs.declared.parts.WheelParts.{WheelParts}
 use Rattle.wheel_pattern.specs.WheelFile.{MeansWheel}
 use Rattle.image_layout.specs.Fields.{wheel_parts_of}

@@ -1,5 +1,5 @@
 -- A file that is loaded, and the image of its bytes.
-use Rattle.std.proofs.Common.{◌≡◌, ℕ, inl, inr, List, Option, Result, Ok, Err}
+use Rattle.std.proofs.Common.{◌≡◌, ℕ, inl, inr, List, Option, Err}
 use Rattle.shelf_traits.specs.Shelf.{View}
 use Rattle.image_layout.specs.Tables.{KeepsLayout}
 use Rattle.run_ends.specs.declared.cause.Cause.{Cause}

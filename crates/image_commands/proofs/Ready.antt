@@ -1,5 +1,5 @@
 -- Accepted images give no cause to end, and how the commands end over them.
-use Rattle.std.proofs.Common.{◌≡◌, ℕ, List, [], Option, None, Some, Result, Ok, Err, sym, ◌∙◌, ap, subst}
+use Rattle.std.proofs.Common.{◌≡◌, ℕ, List, Option, None, Some, Result, Ok, Err, sym, ◌∙◌, ap, subst}
 use Rattle.std.specs.Prelude.{IsTrue}
 use Rattle.shelf_traits.specs.Shelf.{View}
 use Rattle.capture_core.specs.declared.capture.Capture.{Capture}

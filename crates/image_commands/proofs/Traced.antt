@@ -1,5 +1,5 @@
 -- Lines that were written, whole or in front, and how the work ends then.
-use Rattle.std.proofs.Common.{◌≡◌, ℕ, List, [], None, Result, Ok, Err, refl}
+use Rattle.std.proofs.Common.{◌≡◌, ℕ, List, [], None, Ok, Err, refl}
 use Rattle.std.specs.Prelude.{IsTrue}
 use Rattle.std.specs.Io.KnownBytes.{Appends}
 use Rattle.shelf_traits.specs.Count.{RoseWhere}

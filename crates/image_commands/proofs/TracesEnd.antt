@@ -5,7 +5,6 @@ use Rattle.shelf_traits.specs.Shelf.{View}
 use Rattle.image_layout.specs.Fields.{wheel_parts_of}
 use Rattle.command_words.specs.Options.{Options}
 use Rattle.run_ends.specs.declared.cause.Done.{Done}
-use Rattle.run_ends.specs.declared.cause.Done.TheVariants as done
 use Rattle.run_ends.specs.declared.cause.Cause.{Cause}
 use Rattle.run_ends.specs.declared.cause.Cause.TheVariants as cause
 use Rattle.run_ends.specs.Works.{Work, Told, Reads, Writes, StopsOpen, StopsRead, StopsWrite}

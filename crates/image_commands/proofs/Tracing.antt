@@ -1,5 +1,5 @@
 -- Lines that are written one after the other, by a walk of the table.
-use Rattle.std.proofs.Common.{◌≡◌, ℕ, zero, suc, ◌+◌, ◌<◌, ◌≤◌, ℤ, ◌<ℤ◌, Bool, true, false, List, [], ◌∷◌, ◌++◌, length, take, drop, get_or, refl, sym, ap, ◌∙◌, subst, arith, add-one, append_assoc, append-nil, length-append, inl, inr}
+use Rattle.std.proofs.Common.{◌≡◌, ℕ, zero, suc, ◌+◌, ◌<◌, ◌≤◌, ℤ, ◌<ℤ◌, Bool, true, false, List, [], ◌∷◌, ◌++◌, length, drop, get_or, refl, sym, ap, ◌∙◌, subst, arith, add-one, append_assoc, append-nil, length-append, inl, inr}
 use Rattle.std.specs.Prelude.{Option, Some, None, IsTrue, int_lt, ◌==◌, if◌then◌else◌}
 use Rattle.std.specs.Io.KnownBytes.{Appends}
 use Rattle.std.proofs.KnownBytes.{Appends-nil, Appends-trans}
@@ -12,7 +12,7 @@ use Rattle.wheel_types.specs.Verdicts.{IsRising}
 use Rattle.image_layout.specs.Fields.{entry_at}
 use Rattle.image_format.specs.Walk.{Stand, fresh, joined, begun, next, end_state, shape_letter, stand_after}
 use Rattle.sync_machine.specs.declared.machine.Machine.{Machine}
-use Rattle.sync_machine.specs.Machine.{StandsFor, stand_of}
+use Rattle.sync_machine.specs.Machine.{StandsFor}
 use Rattle.sync_machine.specs.Times.{is_before}
 use Rattle.run_ends.specs.Prefixes.{AppendsPrefix}
 use Rattle.run_ends.proofs.Noting.{prefix_after}

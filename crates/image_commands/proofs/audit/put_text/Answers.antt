@@ -1,4 +1,4 @@
-use Rattle.std.proofs.Common.{◌∙◌, ap, subst, sym, Err, Ok}
+use Rattle.std.proofs.Common.{ap, subst, sym, Err, Ok}
 use Rattle.std.proofs.lemmas.Result.{err_from_is_err_and}
 use Rattle.run_ends.specs.declared.cause.Done.TheVariants.{Whole}
 use Rattle.run_ends.proofs.Serving.{wrote, wrote_front, no_memory, rises}

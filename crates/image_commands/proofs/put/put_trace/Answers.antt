@@ -1,7 +1,7 @@
-use Rattle.std.proofs.Common.{◌≡◌, ◌∙◌, ap, refl, arith, length}
+use Rattle.std.proofs.Common.{◌∙◌, ap, refl, arith}
 use Rattle.std.proofs.lemmas.Result.{err_from_is_err_and}
 use Rattle.image_format.specs.Walk.{Stand}
-use Rattle.image_commands.proofs.Tracing.{HasTraced, none_traced, next_traced, cut_traced, all_traced}
+use Rattle.image_commands.proofs.Tracing.{none_traced, next_traced, cut_traced, all_traced}
 use Rattle.image_commands.proofs.put.put_trace.Goals as goal
 
 pub loop-number-init : goal.loop-number-init
@@ -12,7 +12,7 @@ loop-number-init g c = record {
 }
 
 pub put_instant-requires : goal.put_instant-requires
-put_instant-requires g c = c.loop-number.invariant.traced.later _ c.loop-number-test.true c.index-instants-number.is
+put_instant-requires g c = record { later = c.loop-number.invariant.traced.later _ c.loop-number-test.true c.index-instants-number.is }
 
 pub returns-in_err-put_instant-clause-err : goal.returns-in_err-put_instant-clause-err
 returns-in_err-put_instant-clause-err g c =
@@ -22,7 +22,7 @@ returns-in_err-put_instant-clause-err g c =
 
 pub loop-number-preserved : goal.loop-number-preserved
 loop-number-preserved g c = record {
-  traced = next_traced _ _ _ _ _ _ c.args.instants.now c.loop-number.number _ c.requires c.loop-number-test.true c.index-instants-number.is c.loop-number.invariant.traced
+  traced = next_traced _ _ _ _ _ _ c.args.instants.now c.loop-number.number _ c.requires.rising c.loop-number-test.true c.index-instants-number.is c.loop-number.invariant.traced
       c.in_ok-put_instant.ensures.stands c.in_ok-put_instant.ensures.view c.in_ok-put_instant.ensures.ok;
   steady = λ h. c.in_ok-put_instant.ensures.steady (c.loop-number.invariant.steady h);
   same = c.in_ok-put_instant.ensures.quiet (λ is. cc) ∙ c.loop-number.invariant.same;
