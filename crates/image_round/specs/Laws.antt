@@ -1,5 +1,5 @@
 -- The round trip of an image's parts.
-use Rattle.std.specs.Prelude.{◌≡◌, ℕ, ◌<◌, length, slice_index}
+use Rattle.std.specs.Prelude.{◌≡◌, ℕ, ◌<◌, List, All, length, slice_index}
 use Rattle.image_layout.specs.declared.parts.ImageParts.{ImageParts}
 use Rattle.image_layout.specs.Layout.{slot_total, place_total, time_total, ratio_total, state_total}
 use Rattle.image_layout.specs.Fields.{place_at, time_cut_at, ratio_top_at, ratio_bottom_at, kind_word_at, phase_at, kind_at, member_at, entry_at, wheel_parts_of}
@@ -36,3 +36,13 @@ KeptPartsAreImages = (p : ImageParts) → KeepsRules p → KeepsLayout (image_by
 -- and are what is read of it
 abbrev pub ImagesReadBack : Type 0
 ImagesReadBack = (p : ImageParts) → KeepsRules p → ReadsBack p
+
+-- the bytes are what is written of parts that keep the rules
+pub record AreWritten (b : List ℕ) : Type 0 where
+  pub parts : ImageParts
+  pub kept : KeepsRules parts
+  pub written : image_bytes parts ≡ b
+
+-- bytes that keep the table of the layout are written of such parts
+abbrev pub AcceptedImagesAreWritten : Type 0
+AcceptedImagesAreWritten = (b : List ℕ) → All (λ x. x < 256) b → KeepsLayout b → AreWritten b

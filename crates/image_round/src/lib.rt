@@ -3,4 +3,4 @@
 
 mod laws;
 
-pub use laws::{images_read_back, kept_parts_are_images};
+pub use laws::{accepted_images_are_written, images_read_back, kept_parts_are_images};
