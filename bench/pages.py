@@ -109,7 +109,7 @@ def zsh(commands):
     lines += ["local -a commands", "commands=("]
     lines += ["    %s:%s" % (it.name, "'%s'" % it.says.replace("'", "'\\''")) for it in commands]
     lines += ["    help:'what the commands are'", ")", "if (( CURRENT == 2 )); then", "    _describe command commands", "    return", "fi",
-              "words=(${words[2,-1]})", "(( CURRENT-- ))", "case $words[1] in"]
+              "shift words", "(( CURRENT-- ))", "case $words[1] in"]
     for it in commands:
         options = ["'%s[%s]'" % (name, "another name" if name in NAMES else "a file") for name in it.options]
         options = [option[:-1] + (":name:'" if "name]" in option else ":file:_files'") for option in options]
