@@ -289,9 +289,12 @@ fn audit_note(fault: AuditFault) -> Line
             with_two_numbers("audit: twice ", u64::from(first), u64::from(state))
         }
         AuditFault::Kind { state, .. } => with_number("audit: kind ", u64::from(state)),
-        AuditFault::Mismatch { state, letter, found, due } => {
-            mismatch_note(state, letter, found, due)
-        }
+        AuditFault::Mismatch {
+            state,
+            letter,
+            found,
+            due,
+        } => { mismatch_note(state, letter, found, due) }
         AuditFault::Unreached { state } => with_number("audit: unreached ", u64::from(state)),
         AuditFault::Memory => plain("want of memory"),
     }

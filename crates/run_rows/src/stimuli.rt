@@ -18,14 +18,7 @@ fn outcome_of(alloc: Global, words: &str, shelf: &mut MemShelf) -> Result<Came, 
     let mut out = MemSink::new(alloc, Vec::new(alloc));
     let mut notes = MemSink::new(alloc, Vec::new(alloc));
     let words = words_of(alloc, words)?;
-    let status = run(
-        alloc,
-        &words,
-        shelf,
-        &mut out,
-        &mut notes,
-        no_taps(alloc),
-    );
+    let status = run(alloc, &words, shelf, &mut out, &mut notes, no_taps(alloc));
     Ok(Came { status, out, notes })
 }
 
