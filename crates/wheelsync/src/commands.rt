@@ -28,8 +28,8 @@ fn do_command<S: Shelf, O: Sink>(
 ) -> Ended
     requires apart { AreApart (order_of command) }
     requires gaps { AsksGaps (order_of command) }
-    ensures { Served (IsCommand (S.view shelf.old) (map (λ tap. (⟦<dyn Tap as Tap>⟧ tap.vtable).meaning tap.value) taps.items) (order_of command))
-        (writes_of (order_of command)) (S.view shelf.old) (S.view shelf.new)
+    ensures { Served (IsCommand (S.view shelf.old) (map (λ tap. (⟦<dyn Tap as Tap>⟧ tap.vtable).meaning tap.value) taps.items) (order_of command.entry))
+        (writes_of (order_of command.entry)) (S.view shelf.old) (S.view shelf.new)
         (stream (O.faults out.old) (O.taken out.old) (O.steady out.old)) (stream (O.faults out.new) (O.taken out.new) (O.steady out.new)) result.tails.items result.end }
 {
     match command {

@@ -17,12 +17,12 @@ as_order : (v w : View) (taps : List Meaning) (old new : Stream) (tails : List �
     → Served (IsWork v taps found) (option_and_then writes_of found) v w old new tails end
 as_order v w taps old new tails end order found is s = subst (λ (o : Option Order). Served (IsWork v taps o) (option_and_then writes_of o) v w old new tails end) is s
 
-pub returns-in-None-clause-served : goal.returns-in-None-clause-served
-returns-in-None-clause-served g c =
-    let none : None ≡ command_of (map string_bytes c.args.words.now) = sym (ap (option_map order_of) c.in-None.is) ∙ c.read_command.ensures.order in
+pub returns-in_default-clause-served : goal.returns-in_default-clause-served
+returns-in_default-clause-served g c =
+    let none : None ≡ command_of (map string_bytes c.args.words.now) = sym (ap (option_map order_of) c.in_default.is) ∙ c.read_command.ensures.order in
     as_order _ _ _ _ _ _ _ _ _ none (untold _ _ _ _ _ _ _ _ _ c.without_tails.ensures.end c.without_tails.ensures.tails (no_command None (g.S.Shelf.view c.args.shelf.now) _))
 
 pub returns-clause-served : goal.returns-clause-served
 returns-clause-served g c =
-    as_order _ _ _ _ _ _ _ _ _ c.in-Some-command.ensures.order
+    as_order _ _ _ _ _ _ _ _ _ c.in-Some.ensures.order
     (handed_on _ _ _ _ _ _ _ _ _ _ c.do_command-end.ensures c.hand_on.ensures.handed)
