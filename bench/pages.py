@@ -14,6 +14,8 @@ import sys
 TOP = os.path.dirname(os.path.dirname(os.path.abspath(__file__)))
 SOURCE = os.path.join(TOP, "crates/wheelsync_cli/src/help.rt")
 NAMES = ("--time", "--crank", "--cam1", "--cam2")
+# operands that name no file
+FREE = ("NAME", "SEED", "GAPS")
 
 
 class Command:
@@ -24,6 +26,8 @@ class Command:
         self.rest = "\n".join(rest)
         plain = re.sub(r"\[.*?\]", "", self.grammar)
         self.operands = plain.split()[1:]
+        # the operands of which one word of some is due, by their place in the words
+        self.choices = {at: operand.split("|") for at, operand in enumerate(self.operands, 2) if "|" in operand}
         self.options = (*(NAMES if "[NAMES]" in self.grammar else ()), *re.findall(r"\[(--\w+) ", self.grammar))
 
 
@@ -68,6 +72,9 @@ def manual(overview, commands):
 
 def bash(commands):
     cases = ["        %s) words=%s ;;" % (it.name, '"%s"' % " ".join((*it.options, "--help"))) for it in commands]
+    choice = '        %s.%d) COMPREPLY=($(compgen -W "%s" -- "$word")); return ;;'
+    choices = [choice % (it.name, at, " ".join(words)) for it in commands for at, words in it.choices.items()]
+    free = ["%s.%d" % (it.name, at) for it in commands for at, word in enumerate(it.operands, 2) if word in FREE]
     return "\n".join([
         "# Completion of wheelsync for bash: source this file. Made by bench/pages.py.",
         "_wheelsync() {",
@@ -79,6 +86,10 @@ def bash(commands):
         "    case ${COMP_WORDS[1]} in",
         *cases,
         "    esac",
+        "    case ${COMP_WORDS[1]}.$COMP_CWORD in",
+        *choices,
+        "        %s) return ;;" % " | ".join(free),
+        "    esac",
         "    case $word in",
         '        -*) COMPREPLY=($(compgen -W "$words" -- "$word")) ;;',
         '        *) COMPREPLY=($(compgen -f -- "$word")) ;;',
@@ -88,16 +99,21 @@ def bash(commands):
     ]) + "\n"
 
 
+def offered(operand):
+    """What zsh offers for an operand."""
+    return "(%s)" % operand.replace("|", " ") if "|" in operand else " " if operand in FREE else "_files"
+
+
 def zsh(commands):
     lines = ["#compdef wheelsync", "# Completion of wheelsync for zsh: put this file into a folder of fpath. Made by bench/pages.py.", ""]
     lines += ["local -a commands", "commands=("]
     lines += ["    %s:%s" % (it.name, "'%s'" % it.says.replace("'", "'\\''")) for it in commands]
     lines += ["    help:'what the commands are'", ")", "if (( CURRENT == 2 )); then", "    _describe command commands", "    return", "fi",
-              "words=(${words[2,-1]})", "(( CURRENT-- ))", "case $words[1] in"]
+              "shift words", "(( CURRENT-- ))", "case $words[1] in"]
     for it in commands:
         options = ["'%s[%s]'" % (name, "another name" if name in NAMES else "a file") for name in it.options]
         options = [option[:-1] + (":name:'" if "name]" in option else ":file:_files'") for option in options]
-        operands = ["'%d:%s:_files'" % pair for pair in enumerate(it.operands, 1)]
+        operands = ["'%d:%s:%s'" % (at, word, offered(word)) for at, word in enumerate(it.operands, 1)]
         lines.append("    %s) _arguments '--help[the page of the command]' \\" % it.name)
         lines.append("        %s ;;" % " \\\n        ".join(options + operands))
     return "\n".join(lines + ["esac"]) + "\n"

@@ -2,7 +2,7 @@
 _wheelsync() {
     local word=${COMP_WORDS[COMP_CWORD]} words=
     if [ "$COMP_CWORD" -eq 1 ]; then
-        COMPREPLY=($(compgen -W "replay import size compile check help --help --version" -- "$word"))
+        COMPREPLY=($(compgen -W "replay import size compile audit trace check stim self help --help --version" -- "$word"))
         return
     fi
     case ${COMP_WORDS[1]} in
@@ -10,7 +10,15 @@ _wheelsync() {
         import) words="--help" ;;
         size) words="--help" ;;
         compile) words="--help" ;;
+        audit) words="--help" ;;
+        trace) words="--time --crank --cam1 --cam2 --help" ;;
         check) words="--time --crank --cam1 --cam2 --help" ;;
+        stim) words="--help" ;;
+        self) words="--help" ;;
+    esac
+    case ${COMP_WORDS[1]}.$COMP_CWORD in
+        stim.3) COMPREPLY=($(compgen -W "vcd csv" -- "$word")); return ;;
+        import.3 | stim.4 | stim.5 | self.3 | self.4) return ;;
     esac
     case $word in
         -*) COMPREPLY=($(compgen -W "$words" -- "$word")) ;;

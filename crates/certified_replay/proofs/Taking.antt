@@ -66,6 +66,7 @@ stops_reading v x capture source (cause.Limit limit.File) b s = λ told.
     too_long_by v.file capture (v.file capture) refl (b.there told) (subst (λ (l : List ℕ). 2 ^ 28 < length l) (b.whole told) (s (b.tells ∙ told)))
 stops_reading v x capture source (cause.Limit limit.Places) b s = absurd s
 stops_reading v x capture source (cause.Limit (limit.States n)) b s = absurd s
+stops_reading v x capture source (cause.Limit limit.Edges) b s = absurd s
 stops_reading v x capture source (cause.Refused r) b s = absurd s
 stops_reading v x capture source cause.Usage b s = absurd s
 stops_reading v x capture source cause.WriteFault b s = absurd s

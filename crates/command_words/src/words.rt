@@ -1,10 +1,13 @@
 //! The words of a command.
 ghost use Rattle.std.specs.Prelude.{◌≡◌, ◌≢◌, IsTrue, IfSome, map, string_bytes};
 ghost use Rattle.std.specs.Option.{option_map};
-ghost use Rattle.command_words.specs.Words.{command_of, replay_by, import_by, size_by, compile_by, check_by, apart, differ, order_of, AreApart};
+ghost use Rattle.command_words.specs.Words.{command_of, replay_by, import_by, size_by, compile_by, check_by, audit_by, trace_by};
+ghost use Rattle.command_words.specs.Words.{apart, differ, order_of, AreApart, AsksGaps};
 
+use crate::numbers::Form;
 use crate::options::Options;
 use crate::spoken::{hear, is_operand};
+use crate::stimuli::{read_self_test, read_stim};
 
 /// A command with its operands and options.
 #[derive(Clone, Copy, Debug)]
@@ -39,6 +42,31 @@ pub enum Command<'a> {
         wheel: &'a str,
         image: &'a str,
     },
+    /// Audits the image of one file.
+    Audit {
+        image: &'a str,
+    },
+    /// Traces the capture of one file through the image of another. The names differ.
+    Trace {
+        image: &'a str,
+        capture: &'a str,
+        options: Options<'a>,
+    },
+    /// Makes a stimulus of so many gaps, from one to a million, for the wheel of one file: a capture of this form, which another file
+    /// gets. The names differ.
+    Stim {
+        wheel: &'a str,
+        form: Form,
+        seed: u64,
+        gaps: u32,
+        file: &'a str,
+    },
+    /// Tests the wheel of one file on a stimulus of so many gaps, from one to a million.
+    SelfTest {
+        wheel: &'a str,
+        seed: u64,
+        gaps: u32,
+    },
 }
 
 /// Whether the file names of a replay differ.
@@ -55,6 +83,7 @@ fn are_apart(model: &str, capture: &str, cert: Option<&str>) -> bool
 /// The replay that its words give.
 fn read_replay(words: &[String]) -> Option<Command<'_>>
     ensures order { option_map order_of result ≡ replay_by (map string_bytes words.now) }
+    ensures gaps { IfSome result (λ command. AsksGaps (order_of command)) }
     ensures apart { IfSome result (λ command. AreApart (order_of command)) }
 {
     let spoken = match hear(words) {
@@ -91,7 +120,8 @@ fn all_differ(a: &str, b: &str, c: &str, d: &str) -> bool
 
 /// The check that its words give.
 fn read_check(words: &[String]) -> Option<Command<'_>>
-    ensures { option_map order_of result ≡ check_by (map string_bytes words.now) }
+    ensures order { option_map order_of result ≡ check_by (map string_bytes words.now) }
+    ensures gaps { IfSome result (λ command. AsksGaps (order_of command)) }
 {
     let spoken = match hear(words) {
         Some(spoken) => spoken,
@@ -119,7 +149,8 @@ fn read_check(words: &[String]) -> Option<Command<'_>>
 
 /// The import that its words give.
 fn read_import(words: &[String]) -> Option<Command<'_>>
-    ensures { option_map order_of result ≡ import_by (map string_bytes words.now) }
+    ensures order { option_map order_of result ≡ import_by (map string_bytes words.now) }
+    ensures gaps { IfSome result (λ command. AsksGaps (order_of command)) }
 {
     let [source, name] = words else {
         return None;
@@ -134,7 +165,8 @@ fn read_import(words: &[String]) -> Option<Command<'_>>
 
 /// The size that its words ask for.
 fn read_size(words: &[String]) -> Option<Command<'_>>
-    ensures { option_map order_of result ≡ size_by (map string_bytes words.now) }
+    ensures order { option_map order_of result ≡ size_by (map string_bytes words.now) }
+    ensures gaps { IfSome result (λ command. AsksGaps (order_of command)) }
 {
     let [wheel] = words else {
         return None;
@@ -149,7 +181,8 @@ fn read_size(words: &[String]) -> Option<Command<'_>>
 
 /// The compile that its words give.
 fn read_compile(words: &[String]) -> Option<Command<'_>>
-    ensures { option_map order_of result ≡ compile_by (map string_bytes words.now) }
+    ensures order { option_map order_of result ≡ compile_by (map string_bytes words.now) }
+    ensures gaps { IfSome result (λ command. AsksGaps (order_of command)) }
 {
     let [wheel, image] = words else {
         return None;
@@ -162,6 +195,49 @@ fn read_compile(words: &[String]) -> Option<Command<'_>>
     }
 }
 
+/// The audit that its words ask for.
+fn read_audit(words: &[String]) -> Option<Command<'_>>
+    ensures order { option_map order_of result ≡ audit_by (map string_bytes words.now) }
+    ensures gaps { IfSome result (λ command. AsksGaps (order_of command)) }
+{
+    let [image] = words else {
+        return None;
+    };
+    let image = image.as_str();
+    if is_operand(image) {
+        Some(Command::Audit { image })
+    } else {
+        None
+    }
+}
+
+/// The trace that its words give.
+fn read_trace(words: &[String]) -> Option<Command<'_>>
+    ensures order { option_map order_of result ≡ trace_by (map string_bytes words.now) }
+    ensures gaps { IfSome result (λ command. AsksGaps (order_of command)) }
+{
+    let spoken = match hear(words) {
+        Some(spoken) => spoken,
+        None => return None,
+    };
+    if spoken.third.is_some() || spoken.cert.is_some() || spoken.wants.is_some() {
+        return None;
+    }
+    match (spoken.first, spoken.second) {
+        (Some(image), Some(capture)) => {
+            if image == capture {
+                return None;
+            }
+            Some(Command::Trace {
+                image,
+                capture,
+                options: spoken.options,
+            })
+        }
+        _ => None,
+    }
+}
+
 /// The command that the words after the program's name give, or nothing where they are none.
 ///
 /// An operand is not empty and does not begin with two dashes. An option may stand anywhere past the command, at most once, and the next
@@ -169,6 +245,7 @@ fn read_compile(words: &[String]) -> Option<Command<'_>>
 pub fn read_command(words: &[String]) -> Option<Command<'_>>
     ensures order { option_map order_of result ≡ command_of (map string_bytes words.now) }
     ensures apart { IfSome result (λ command. AreApart (order_of command)) }
+    ensures gaps { IfSome result (λ command. AsksGaps (order_of command)) }
 {
     let Some((command, operands)) = words.split_first() else {
         return None;
@@ -184,6 +261,14 @@ pub fn read_command(words: &[String]) -> Option<Command<'_>>
         read_check(operands)
     } else if command == "compile" {
         read_compile(operands)
+    } else if command == "audit" {
+        read_audit(operands)
+    } else if command == "trace" {
+        read_trace(operands)
+    } else if command == "stim" {
+        read_stim(operands)
+    } else if command == "self" {
+        read_self_test(operands)
     } else {
         None
     }

@@ -43,6 +43,7 @@ no_image v u wheel image w out (cause.Limit (limit.States most)) read has same (
 no_image v u wheel image w out cause.Memory read has same none =
     stops _ _ _ _ _ _ _ _ _ cause.Memory (stays v.faults_in u.faults_in _ (λ is. cc) same, inr (read, tt))
 no_image v u wheel image w out (cause.Limit limit.File) read has same none = absurd none
+no_image v u wheel image w out (cause.Limit limit.Edges) read has same none = absurd none
 no_image v u wheel image w out (cause.Refused r) read has same none = absurd none
 no_image v u wheel image w out cause.Usage read has same none = absurd none
 no_image v u wheel image w out cause.ReadFault read has same none = absurd none

@@ -8,8 +8,8 @@ use Rattle.image_layout.specs.Fields.{place_at, wheel_parts_of}
 use Rattle.std.specs.Prelude.{Result, Ok, Err, OnOk, IfErr, IsNone}
 use Rattle.position_nfa.specs.Alphabets.{Alphabet, IsAlphabetOf}
 use Rattle.table_images.specs.Images.{IsSoundImage}
-use Rattle.image_audit.specs.declared.fault.AuditFault.{AuditFault}
-use Rattle.image_audit.specs.declared.fault.AuditFault.TheVariants as faults
+use Rattle.audit_faults.specs.declared.fault.AuditFault.{AuditFault}
+use Rattle.audit_faults.specs.declared.fault.AuditFault.TheVariants as faults
 use Rattle.image_audit.specs.Differences.{IsFirst}
 use Rattle.image_audit.specs.Audits.{IsFirstOfWheel, IsAuditFault}
 use Rattle.image_audit.proofs.Sizes.{length-listed}

@@ -19,8 +19,8 @@ use Rattle.subset_build.proofs.FamilyLaws.{Contains-slice_get}
 use Rattle.table_images.specs.Images.{set_at, state_at, table_of}
 use Rattle.table_images.specs.Kinds.{says_of}
 use Rattle.table_images.proofs.StateFacts.{reached_low}
-use Rattle.image_audit.specs.declared.fault.AuditFault.{AuditFault}
-use Rattle.image_audit.specs.declared.fault.AuditFault.TheVariants as faults
+use Rattle.audit_faults.specs.declared.fault.AuditFault.{AuditFault}
+use Rattle.audit_faults.specs.declared.fault.AuditFault.TheVariants as faults
 use Rattle.image_audit.specs.Agreements.{AgreesInKinds}
 use Rattle.image_audit.specs.Differences.{DifferFirst, IsRepeat, IsOtherKind, IsOtherEntry, IsFirst}
 use Rattle.image_audit.proofs.Listed.{at_map}

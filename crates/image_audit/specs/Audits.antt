@@ -3,8 +3,8 @@ use Rattle.std.specs.Prelude.{ℕ, ⊤, List}
 use Rattle.cam_ranges.specs.Places.{HasTooMany}
 use Rattle.image_layout.specs.Fields.{wheel_parts_of}
 use Rattle.position_nfa.specs.Alphabets.{Alphabet, IsAlphabetOf}
-use Rattle.image_audit.specs.declared.fault.AuditFault.{AuditFault}
-use Rattle.image_audit.specs.declared.fault.AuditFault.TheVariants.{TooManyPlaces, Memory}
+use Rattle.audit_faults.specs.declared.fault.AuditFault.{AuditFault}
+use Rattle.audit_faults.specs.declared.fault.AuditFault.TheVariants.{TooManyPlaces, Memory}
 use Rattle.image_audit.specs.Differences.{IsFirst}
 
 -- the fault is the first difference between the image and the places and cuts of its own wheel

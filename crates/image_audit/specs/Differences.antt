@@ -14,8 +14,8 @@ use Rattle.position_nfa.specs.Sound.{IsDue, SetSays}
 use Rattle.position_nfa.specs.Step.{next_state}
 use Rattle.table_images.specs.Images.{set_at, state_at, table_of}
 use Rattle.table_images.specs.Kinds.{says_of}
-use Rattle.image_audit.specs.declared.fault.AuditFault.{AuditFault}
-use Rattle.image_audit.specs.declared.fault.AuditFault.TheVariants as faults
+use Rattle.audit_faults.specs.declared.fault.AuditFault.{AuditFault}
+use Rattle.audit_faults.specs.declared.fault.AuditFault.TheVariants as faults
 use Rattle.image_audit.specs.Agreements.{time_cuts, ratio_cuts, named, OnceTo, KindsTo, EntriesTo, ReachedTo, AgreesInLists, AgreesInStart, AgreesInStates, AgreesInKinds, AgreesInRows}
 
 -- two lists are the same before a place, and at it one has another entry than the other, or none

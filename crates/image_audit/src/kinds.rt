@@ -6,8 +6,8 @@ ghost use Rattle.table_images.specs.Kinds.{AreSets};
 ghost use Rattle.image_audit.specs.Agreements.{AgreesInStates, AgreesInKinds};
 ghost use Rattle.image_audit.specs.Differences.{IsFirst};
 
-use crate::fault::AuditFault;
 use crate::states::numbered;
+use audit_faults::AuditFault;
 use image_format::View;
 use indexmap::IndexSet;
 use position_nfa::{Nfa, Pair};

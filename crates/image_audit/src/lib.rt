@@ -4,7 +4,6 @@
 //! letter. `specs/Differences` says what it looks for and in which order.
 #![tactic(auto)]
 
-mod fault;
 mod kinds;
 mod lists;
 mod reach;
@@ -13,5 +12,5 @@ mod sound;
 mod start;
 mod states;
 
-pub use fault::AuditFault;
+pub use audit_faults::AuditFault;
 pub use sound::{Sound, audit};

@@ -5,7 +5,7 @@ ghost use Rattle.table_images.specs.Images.{table_of};
 ghost use Rattle.image_audit.specs.Agreements.{time_cuts, ratio_cuts, AgreesInLists};
 ghost use Rattle.image_audit.specs.Differences.{IsFirst};
 
-use crate::fault::AuditFault;
+use audit_faults::AuditFault;
 use image_format::View;
 use position_nfa::Nfa;
 use wheel_types::Place;

@@ -9,7 +9,7 @@ ghost use Rattle.image_audit.specs.Agreements.{AgreesInRows, Agrees};
 ghost use Rattle.image_audit.specs.Differences.{IsFirst};
 ghost use Rattle.image_audit.specs.Walks.{AddsOne, AddsRowTo, AreAllFound};
 
-use crate::fault::AuditFault;
+use audit_faults::AuditFault;
 use image_format::View;
 use indexmap::IndexSet;
 use position_nfa::Nfa;

@@ -13,9 +13,9 @@ ghost use Rattle.table_images.specs.Kinds.{AreSets};
 ghost use Rattle.image_audit.specs.Agreements.{EntriesTo, AgreesInKinds, AgreesInRows};
 ghost use Rattle.image_audit.specs.Differences.{IsDueNumber, IsFirst};
 
-use crate::fault::AuditFault;
 use crate::start::empty_words;
 use crate::states::numbered;
+use audit_faults::AuditFault;
 use image_format::View;
 use indexmap::IndexSet;
 use position_nfa::{Nfa, Pair, phase_after, write_effect};

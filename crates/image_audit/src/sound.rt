@@ -9,13 +9,13 @@ ghost use Rattle.image_audit.specs.Agreements.{Agrees};
 ghost use Rattle.image_audit.specs.Differences.{IsFirst};
 ghost use Rattle.image_audit.specs.Audits.{IsAuditFault};
 
-use crate::fault::AuditFault;
 use crate::kinds::check_kinds;
 use crate::lists::check_lists;
 use crate::reach::check_reached;
 use crate::rows::check_rows;
 use crate::start::check_start;
 use crate::states::number_states;
+use audit_faults::AuditFault;
 use cam_ranges::PlaceFault;
 use image_format::View;
 use position_nfa::Nfa;

@@ -10,7 +10,7 @@ ghost use Rattle.table_images.specs.Images.{set_at};
 ghost use Rattle.image_audit.specs.Agreements.{AgreesInLists, AgreesInStart};
 ghost use Rattle.image_audit.specs.Differences.{IsFirst};
 
-use crate::fault::AuditFault;
+use audit_faults::AuditFault;
 use image_format::View;
 use position_nfa::Nfa;
 use std::alloc::{AllocError, Global};

@@ -12,7 +12,7 @@ ghost use Rattle.table_images.specs.Kinds.{AreSets};
 ghost use Rattle.image_audit.specs.Agreements.{named, AgreesInStart, AgreesInStates};
 ghost use Rattle.image_audit.specs.Differences.{IsFirst};
 
-use crate::fault::AuditFault;
+use audit_faults::AuditFault;
 use image_format::View;
 use indexmap::IndexSet;
 use position_nfa::{Nfa, Pair};

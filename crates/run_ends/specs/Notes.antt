@@ -1,5 +1,5 @@
 -- The line on notes of each cause.
-use Rattle.std.specs.Prelude.{ℕ, List, ◌++◌, codes, decimal}
+use Rattle.std.specs.Prelude.{ℕ, List, [], ◌∷◌, ◌++◌, codes, decimal, Option, Some, None}
 use Rattle.wheel_types.specs.declared.channel.Channel.{Channel}
 use Rattle.wheel_types.specs.declared.channel.Channel.TheVariants.{Crank, Cam1, Cam2}
 use Rattle.wheel_types.specs.declared.fault.WheelFault.{WheelFault}
@@ -15,6 +15,10 @@ use Rattle.capture_core.specs.declared.capture.CsvFault.{CsvFault}
 use Rattle.capture_core.specs.declared.capture.CsvFault.TheVariants as csv
 use Rattle.capture_core.specs.declared.capture.VcdFault.{VcdFault}
 use Rattle.capture_core.specs.declared.capture.VcdFault.TheVariants as vcd
+use Rattle.image_layout.specs.declared.fault.ImageFault.{ImageFault}
+use Rattle.image_layout.specs.declared.fault.ImageFault.TheVariants as image
+use Rattle.audit_faults.specs.declared.fault.AuditFault.{AuditFault}
+use Rattle.audit_faults.specs.declared.fault.AuditFault.TheVariants as audit
 use Rattle.run_ends.specs.declared.cause.Refusal.{Refusal}
 use Rattle.run_ends.specs.declared.cause.Refusal.TheVariants as refusal
 use Rattle.run_ends.specs.declared.cause.Limit.{Limit}
@@ -34,6 +38,12 @@ line_at text number = text ++ decimal number ++ codes "\n"
 
 abbrev pub line_with_at : List ℕ → List ℕ → List ℕ → ℕ → List ℕ
 line_with_at text word more number = text ++ word ++ more ++ decimal number ++ codes "\n"
+
+-- numbers with a blank between two
+abbrev pub numbers_text : List ℕ → List ℕ
+numbers_text [] = []
+numbers_text (n ∷ []) = decimal n
+numbers_text (n ∷ m ∷ rest) = decimal n ++ codes " " ++ numbers_text (m ∷ rest)
 
 -- a channel by its name
 abbrev pub channel_text : Channel → List ℕ
@@ -98,6 +108,33 @@ vcd_line (vcd.TwoSignals channel) = line_with (codes "capture: two signals ") (c
 vcd_line (vcd.WideSignal channel) = line_with (codes "capture: wide signal ") (channel_text channel)
 vcd_line (vcd.Cut at) = line_at (codes "capture: cut byte ") at
 
+-- the first rule of the layout that an image breaks
+abbrev pub image_line : ImageFault → List ℕ
+image_line image.Magic = line (codes "image: magic")
+image_line image.Version = line (codes "image: version")
+image_line image.Short = line (codes "image: short")
+image_line image.Extra = line (codes "image: extra")
+image_line (image.Order section at) = line_with (codes "image: order ") (numbers_text (section ∷ at ∷ []))
+image_line (image.Range section at) = line_with (codes "image: range ") (numbers_text (section ∷ at ∷ []))
+
+-- an entry of a state's row, and the state that is due there, or that there is none
+abbrev pub mismatch_line : (state letter found : ℕ) → (due : Option ℕ) → List ℕ
+mismatch_line state letter found None = line_with (codes "audit: mismatch ") (numbers_text (state ∷ letter ∷ found ∷ []) ++ codes " none")
+mismatch_line state letter found (Some due) = line_with (codes "audit: mismatch ") (numbers_text (state ∷ letter ∷ found ∷ due ∷ []))
+
+-- the first difference between an image and the table of its own wheel
+abbrev pub audit_line : AuditFault → List ℕ
+audit_line audit.TooManyPlaces = line (codes "audit: places")
+audit_line (audit.Places at found due) = line_at (codes "audit: place ") at
+audit_line (audit.TimeCut at found due) = line_at (codes "audit: time cut ") at
+audit_line (audit.RatioCut at found due) = line_at (codes "audit: ratio cut ") at
+audit_line (audit.Start word found due) = line_at (codes "audit: start ") word
+audit_line (audit.Twice first state) = line_with (codes "audit: twice ") (numbers_text (first ∷ state ∷ []))
+audit_line (audit.Kind state found due) = line_at (codes "audit: kind ") state
+audit_line (audit.Mismatch state letter found due) = mismatch_line state letter found due
+audit_line (audit.Unreached state) = line_at (codes "audit: unreached ") state
+audit_line audit.Memory = line (codes "want of memory")
+
 -- the line of a refused input
 abbrev pub refusal_line : Refusal → List ℕ
 refusal_line (refusal.Wheel no_wheel) = pattern_line no_wheel.fault
@@ -106,12 +143,16 @@ refusal_line (refusal.Csv fault) = csv_line fault
 refusal_line (refusal.Vcd fault) = vcd_line fault
 refusal_line (refusal.Report at) = line_at (codes "report: bad line ") at
 refusal_line (refusal.Certificate at) = line_at (codes "certificate: bad line ") at
+refusal_line (refusal.Image fault) = image_line fault
+refusal_line (refusal.Audit not_sound) = audit_line not_sound.fault
+refusal_line (refusal.Stuck gap low high) = line_with (codes "stuck ") (numbers_text (gap ∷ low ∷ high ∷ []))
 
 -- the line of a limit that was passed
 abbrev pub limit_line : Limit → List ℕ
 limit_line limit.Places = line (codes "limit: places")
 limit_line (limit.States most) = line_at (codes "limit: states ") most
 limit_line limit.File = line (codes "limit: file")
+limit_line limit.Edges = line (codes "limit: edges")
 
 -- the line of a cause
 abbrev pub note_of : Cause → List ℕ

@@ -1,7 +1,8 @@
 //! Why a run ended.
 
-use crate::refused::{NoTable, NoWheel};
+use crate::refused::{NoTable, NoWheel, NotSound};
 use capture_core::{CsvFault, VcdFault};
+use image_layout::ImageFault;
 
 /// Why an input is refused.
 #[derive(Clone, Copy, Debug, PartialEq, Eq)]
@@ -18,6 +19,13 @@ pub enum Refusal {
     Report { at: u64 },
     /// The certificate has a line that is none of a certificate; `at` counts lines from 1.
     Certificate { at: u64 },
+    /// The image breaks a rule of its layout.
+    Image(ImageFault),
+    /// The image does not hold the table of its own wheel.
+    Audit(NotSound),
+    /// The stimulus meets a gap, counted from 0, that no time keeps the limits of: in femtoseconds, `low` is the least time that is long
+    /// enough, and `high`, which is less, the greatest that is short enough.
+    Stuck { gap: u32, low: u64, high: u64 },
 }
 
 /// Which limit was passed.
@@ -29,6 +37,8 @@ pub enum Limit {
     States { limit: u32 },
     /// A file has more than 2^28 bytes.
     File,
+    /// The stimulus has more than 4,000,000 edges.
+    Edges,
 }
 
 /// Why a run ended before its work was done.

@@ -13,6 +13,6 @@ pub use cause::{Cause, Done, Limit, Refusal};
 pub use ending::{finish, hand_on};
 pub use filing::{create_file, make_file, put_piece};
 pub use lines::{Line, note};
-pub use refused::{NoTable, NoWheel};
+pub use refused::{NoTable, NoWheel, NotSound};
 pub use status::Status;
 pub use writing::put;

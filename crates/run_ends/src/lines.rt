@@ -1,21 +1,23 @@
 //! The line of a cause on notes. It is made without taking memory.
-ghost use Rattle.std.specs.Prelude.{◌≡◌, ◌≤◌, ◌+◌, ◌++◌, length, decimal};
+ghost use Rattle.std.specs.Prelude.{◌≡◌, ◌≤◌, ◌+◌, ◌++◌, ◌∷◌, [], Some, None, length, decimal};
 ghost use Rattle.arrayvec.specs.ArrayString.{array_string_len};
-ghost use Rattle.run_ends.specs.Notes.{line, line_with, line_at, line_with_at, channel_text, column_text, wheel_line, pattern_line, table_line, csv_line, vcd_line, refusal_line, limit_line, note_of};
+ghost use Rattle.run_ends.specs.Notes.{line, line_with, line_at, line_with_at, numbers_text, channel_text, column_text, wheel_line, pattern_line, table_line, csv_line, vcd_line, image_line, mismatch_line, audit_line, refusal_line, limit_line, note_of};
 
 use crate::{Cause, Limit, Refusal};
 use arrayvec::ArrayString;
+use audit_faults::AuditFault;
 use capture_core::{Column, CsvFault, VcdFault};
+use image_layout::ImageFault;
 use itoa::Buffer;
 use wheel_pattern::{PatternFault, TableFault};
 use wheel_types::{Channel, WheelFault};
 
-/// A line of at most 64 bytes.
-pub type Line = ArrayString<64>;
+/// A line of at most 128 bytes.
+pub type Line = ArrayString<128>;
 
 /// A text and a line feed.
 fn plain(text: &str) -> Line
-    requires { length text.now ≤ 63 }
+    requires { length text.now ≤ 127 }
     ensures { result.bytes ≡ line text.now }
 {
     let mut line = ArrayString::new();
@@ -26,7 +28,7 @@ fn plain(text: &str) -> Line
 
 /// A text, a word and a line feed.
 fn with_word(text: &str, word: &str) -> Line
-    requires { length text.now + length word.now ≤ 63 }
+    requires { length text.now + length word.now ≤ 127 }
     ensures { result.bytes ≡ line_with text.now word.now }
 {
     let mut line = ArrayString::new();
@@ -38,7 +40,7 @@ fn with_word(text: &str, word: &str) -> Line
 
 /// Puts a number at the end of a line.
 fn push_number(line: &mut Line, number: u64)
-    requires { array_string_len line.old + 20 ≤ 64 }
+    requires { array_string_len line.old + 20 ≤ 128 }
     ensures bytes { line.new.bytes ≡ line.old.bytes ++ decimal number }
     ensures room { array_string_len line.new ≤ array_string_len line.old + 20 }
 {
@@ -48,7 +50,7 @@ fn push_number(line: &mut Line, number: u64)
 
 /// A text, a number and a line feed.
 fn with_number(text: &str, number: u64) -> Line
-    requires { length text.now ≤ 43 }
+    requires { length text.now ≤ 107 }
     ensures { result.bytes ≡ line_at text.now number }
 {
     let mut line = ArrayString::new();
@@ -60,7 +62,7 @@ fn with_number(text: &str, number: u64) -> Line
 
 /// A text, a word, a text, a number and a line feed.
 fn with_word_and_number(text: &str, word: &str, more: &str, number: u64) -> Line
-    requires { length text.now + length word.now + length more.now ≤ 43 }
+    requires { length text.now + length word.now + length more.now ≤ 107 }
     ensures { result.bytes ≡ line_with_at text.now word.now more.now number }
 {
     let mut line = ArrayString::new();
@@ -68,6 +70,45 @@ fn with_word_and_number(text: &str, word: &str, more: &str, number: u64) -> Line
     line.push_str(word);
     line.push_str(more);
     push_number(&mut line, number);
+    line.push_str("\n");
+    line
+}
+
+/// A text, numbers with a blank between two, and a line feed.
+fn with_two_numbers(text: &str, first: u64, second: u64) -> Line
+    requires { length text.now ≤ 80 }
+    ensures { result.bytes ≡ line_with text.now (numbers_text (first ∷ second ∷ [])) }
+{
+    let mut line = ArrayString::new();
+    line.push_str(text);
+    push_number(&mut line, first);
+    line.push_str(" ");
+    push_number(&mut line, second);
+    line.push_str("\n");
+    line
+}
+
+/// Puts three numbers at the end of a line, with a blank between two.
+fn push_three(line: &mut Line, first: u64, second: u64, third: u64)
+    requires { array_string_len line.old + 62 ≤ 128 }
+    ensures bytes { line.new.bytes ≡ line.old.bytes ++ numbers_text (first ∷ second ∷ third ∷ []) }
+    ensures room { array_string_len line.new ≤ array_string_len line.old + 62 }
+{
+    push_number(line, first);
+    line.push_str(" ");
+    push_number(line, second);
+    line.push_str(" ");
+    push_number(line, third);
+}
+
+/// A text, three numbers with a blank between two, and a line feed.
+fn with_three_numbers(text: &str, first: u64, second: u64, third: u64) -> Line
+    requires { length text.now ≤ 60 }
+    ensures { result.bytes ≡ line_with text.now (numbers_text (first ∷ second ∷ third ∷ [])) }
+{
+    let mut line = ArrayString::new();
+    line.push_str(text);
+    push_three(&mut line, first, second, third);
     line.push_str("\n");
     line
 }
@@ -180,6 +221,85 @@ fn vcd_note(fault: VcdFault) -> Line
     }
 }
 
+/// The line of the first rule of the layout that an image breaks.
+fn image_note(fault: ImageFault) -> Line
+    ensures { result.bytes ≡ image_line fault }
+{
+    match fault {
+        ImageFault::Magic => plain("image: magic"),
+        ImageFault::Version => plain("image: version"),
+        ImageFault::Short => plain("image: short"),
+        ImageFault::Extra => plain("image: extra"),
+        ImageFault::Order { section, at } => {
+            with_two_numbers("image: order ", u64::from(section), u64::from(at))
+        }
+        ImageFault::Range { section, at } => {
+            with_two_numbers("image: range ", u64::from(section), u64::from(at))
+        }
+    }
+}
+
+/// The line of an entry of a state's row, where no state is the due one.
+fn mismatch_without_due(state: u64, letter: u64, found: u64) -> Line
+    ensures { result.bytes ≡ mismatch_line state letter found None }
+{
+    let mut line = ArrayString::new();
+    line.push_str("audit: mismatch ");
+    push_three(&mut line, state, letter, found);
+    line.push_str(" none");
+    line.push_str("\n");
+    line
+}
+
+/// The line of an entry of a state's row, where another state is the due one.
+fn mismatch_with_due(state: u64, letter: u64, found: u64, due: u64) -> Line
+    ensures { result.bytes ≡ mismatch_line state letter found (Some due) }
+{
+    let mut line = ArrayString::new();
+    line.push_str("audit: mismatch ");
+    push_three(&mut line, state, letter, found);
+    line.push_str(" ");
+    push_number(&mut line, due);
+    line.push_str("\n");
+    line
+}
+
+/// The line of an entry of a state's row that is not the due one.
+fn mismatch_note(state: u32, letter: u32, found: u32, due: Option<u32>) -> Line
+    ensures { result.bytes ≡ mismatch_line state letter found due }
+{
+    let (state, letter, found) = (u64::from(state), u64::from(letter), u64::from(found));
+    match due {
+        None => mismatch_without_due(state, letter, found),
+        Some(due) => mismatch_with_due(state, letter, found, u64::from(due)),
+    }
+}
+
+/// The line of the first difference between an image and the table of its own wheel.
+fn audit_note(fault: AuditFault) -> Line
+    ensures { result.bytes ≡ audit_line fault }
+{
+    match fault {
+        AuditFault::TooManyPlaces => plain("audit: places"),
+        AuditFault::Places { at, .. } => with_number("audit: place ", u64::from(at)),
+        AuditFault::TimeCut { at, .. } => with_number("audit: time cut ", u64::from(at)),
+        AuditFault::RatioCut { at, .. } => with_number("audit: ratio cut ", u64::from(at)),
+        AuditFault::Start { word, .. } => with_number("audit: start ", u64::from(word)),
+        AuditFault::Twice { first, state } => {
+            with_two_numbers("audit: twice ", u64::from(first), u64::from(state))
+        }
+        AuditFault::Kind { state, .. } => with_number("audit: kind ", u64::from(state)),
+        AuditFault::Mismatch {
+            state,
+            letter,
+            found,
+            due,
+        } => { mismatch_note(state, letter, found, due) }
+        AuditFault::Unreached { state } => with_number("audit: unreached ", u64::from(state)),
+        AuditFault::Memory => plain("want of memory"),
+    }
+}
+
 /// The line of a refused input.
 fn refusal_note(refusal: Refusal) -> Line
     ensures { result.bytes ≡ refusal_line refusal }
@@ -191,6 +311,11 @@ fn refusal_note(refusal: Refusal) -> Line
         Refusal::Vcd(fault) => vcd_note(fault),
         Refusal::Report { at } => with_number("report: bad line ", at),
         Refusal::Certificate { at } => with_number("certificate: bad line ", at),
+        Refusal::Image(fault) => image_note(fault),
+        Refusal::Audit(not_sound) => audit_note(not_sound.fault),
+        Refusal::Stuck { gap, low, high } => {
+            with_three_numbers("stuck ", u64::from(gap), low, high)
+        }
     }
 }
 
@@ -202,6 +327,7 @@ fn limit_note(limit: Limit) -> Line
         Limit::Places => plain("limit: places"),
         Limit::States { limit } => with_number("limit: states ", limit as u64),
         Limit::File => plain("limit: file"),
+        Limit::Edges => plain("limit: edges"),
     }
 }
 

@@ -18,7 +18,7 @@ use Rattle.pair_certificate.specs.Lines.{lines_of}
 use Rattle.pair_certificate.specs.Readings.{AreLines, IsReportLine, IsCertLine, IsFirstBadLine, MeansReports, MeansCertificate}
 use Rattle.pair_certificate.proofs.OneMeaning.{one_report, one_certificate}
 use Rattle.run_files.specs.Files.{Holds, IsTooLong, HasWheel, HasPlacedWheel, HasTable, HasReport, HasCertificate}
-use Rattle.run_files.specs.Causes.{FileGives, ModelGives, SourceGives, ReportGives, CertificateGives}
+use Rattle.run_files.specs.Causes.{FileGives, WheelGives, ModelGives, SourceGives, ReportGives, CertificateGives}
 use Rattle.cam_ranges.specs.Places.{HasTooMany}
 
 -- a file has one list of bytes
@@ -49,19 +49,45 @@ model_gives_none file name w h (cause.Limit limit.File) g = not_too_long file na
 model_gives_none file name w h (cause.Refused (refusal.Table fault)) g = g
 model_gives_none file name w h (cause.Refused (refusal.Csv fault)) g = g
 model_gives_none file name w h (cause.Refused (refusal.Vcd fault)) g = g
+model_gives_none file name w h (cause.Refused (refusal.Image fault)) g = g
+model_gives_none file name w h (cause.Refused (refusal.Audit not_sound)) g = g
+model_gives_none file name w h (cause.Refused (refusal.Stuck gap low high)) g = g
 model_gives_none file name w h (cause.Refused (refusal.Report at)) g = g
 model_gives_none file name w h (cause.Refused (refusal.Certificate at)) g = g
 model_gives_none file name w h (cause.Limit (limit.States most)) g = g
+model_gives_none file name w h (cause.Limit limit.Edges) g = g
 model_gives_none file name w h cause.Usage g = g
 model_gives_none file name w h cause.ReadFault g = g
 model_gives_none file name w h cause.WriteFault g = g
 model_gives_none file name w h cause.Memory g = g
+
+-- nor does a wheel's file, whatever places the wheel has
+pub wheel_gives_none : (file : List ℕ → Option (List ℕ)) (name : List ℕ) (w : WheelParts) → HasWheel file name w → (e : Cause) → WheelGives file name e → ⊥
+wheel_gives_none file name w h (cause.Refused (refusal.Wheel no_wheel)) (bytes, (holds, f)) =
+    not_both bytes w no_wheel.fault (subst (λ b. MeansWheel b w) (same_bytes file name h.bytes bytes h.holds holds) h.wheel) f
+wheel_gives_none file name w h (cause.Limit limit.File) g = not_too_long file name h.bytes h.holds g
+wheel_gives_none file name w h (cause.Refused (refusal.Table fault)) g = g
+wheel_gives_none file name w h (cause.Refused (refusal.Csv fault)) g = g
+wheel_gives_none file name w h (cause.Refused (refusal.Vcd fault)) g = g
+wheel_gives_none file name w h (cause.Refused (refusal.Image fault)) g = g
+wheel_gives_none file name w h (cause.Refused (refusal.Audit not_sound)) g = g
+wheel_gives_none file name w h (cause.Refused (refusal.Stuck gap low high)) g = g
+wheel_gives_none file name w h (cause.Refused (refusal.Report at)) g = g
+wheel_gives_none file name w h (cause.Refused (refusal.Certificate at)) g = g
+wheel_gives_none file name w h (cause.Limit limit.Places) g = g
+wheel_gives_none file name w h (cause.Limit (limit.States most)) g = g
+wheel_gives_none file name w h (cause.Limit limit.Edges) g = g
+wheel_gives_none file name w h cause.Usage g = g
+wheel_gives_none file name w h cause.ReadFault g = g
+wheel_gives_none file name w h cause.WriteFault g = g
+wheel_gives_none file name w h cause.Memory g = g
 
 -- nor does a file that is short enough
 pub file_gives_none : (file : List ℕ → Option (List ℕ)) (name bytes : List ℕ) → Holds file name bytes → (e : Cause) → FileGives file name e → ⊥
 file_gives_none file name bytes h (cause.Limit limit.File) g = not_too_long file name bytes h g
 file_gives_none file name bytes h (cause.Limit limit.Places) g = g
 file_gives_none file name bytes h (cause.Limit (limit.States most)) g = g
+file_gives_none file name bytes h (cause.Limit limit.Edges) g = g
 file_gives_none file name bytes h (cause.Refused r) g = g
 file_gives_none file name bytes h cause.Usage g = g
 file_gives_none file name bytes h cause.ReadFault g = g
@@ -77,11 +103,15 @@ source_gives_none file source name slots h (cause.Refused (refusal.Table no_tabl
 source_gives_none file source name slots h (cause.Refused (refusal.Wheel fault)) g = g
 source_gives_none file source name slots h (cause.Refused (refusal.Csv fault)) g = g
 source_gives_none file source name slots h (cause.Refused (refusal.Vcd fault)) g = g
+source_gives_none file source name slots h (cause.Refused (refusal.Image fault)) g = g
+source_gives_none file source name slots h (cause.Refused (refusal.Audit not_sound)) g = g
+source_gives_none file source name slots h (cause.Refused (refusal.Stuck gap low high)) g = g
 source_gives_none file source name slots h (cause.Refused (refusal.Report at)) g = g
 source_gives_none file source name slots h (cause.Refused (refusal.Certificate at)) g = g
 source_gives_none file source name slots h (cause.Limit limit.File) g = not_too_long file source h.bytes h.holds g
 source_gives_none file source name slots h (cause.Limit limit.Places) g = g
 source_gives_none file source name slots h (cause.Limit (limit.States most)) g = g
+source_gives_none file source name slots h (cause.Limit limit.Edges) g = g
 source_gives_none file source name slots h cause.Usage g = g
 source_gives_none file source name slots h cause.ReadFault g = g
 source_gives_none file source name slots h cause.WriteFault g = g
@@ -113,6 +143,9 @@ report_gives_none file name rs h (cause.Refused (refusal.Wheel fault)) g = g
 report_gives_none file name rs h (cause.Refused (refusal.Table fault)) g = g
 report_gives_none file name rs h (cause.Refused (refusal.Csv fault)) g = g
 report_gives_none file name rs h (cause.Refused (refusal.Vcd fault)) g = g
+report_gives_none file name rs h (cause.Refused (refusal.Image fault)) g = g
+report_gives_none file name rs h (cause.Refused (refusal.Audit not_sound)) g = g
+report_gives_none file name rs h (cause.Refused (refusal.Stuck gap low high)) g = g
 report_gives_none file name rs h (cause.Refused (refusal.Certificate at)) g = g
 report_gives_none file name rs h (cause.Limit l) g = file_gives_none file name h.bytes h.holds (cause.Limit l) g
 report_gives_none file name rs h cause.Usage g = g
@@ -128,6 +161,9 @@ certificate_gives_none file name cs h (cause.Refused (refusal.Wheel fault)) g = 
 certificate_gives_none file name cs h (cause.Refused (refusal.Table fault)) g = g
 certificate_gives_none file name cs h (cause.Refused (refusal.Csv fault)) g = g
 certificate_gives_none file name cs h (cause.Refused (refusal.Vcd fault)) g = g
+certificate_gives_none file name cs h (cause.Refused (refusal.Image fault)) g = g
+certificate_gives_none file name cs h (cause.Refused (refusal.Audit not_sound)) g = g
+certificate_gives_none file name cs h (cause.Refused (refusal.Stuck gap low high)) g = g
 certificate_gives_none file name cs h (cause.Refused (refusal.Report at)) g = g
 certificate_gives_none file name cs h (cause.Limit l) g = file_gives_none file name h.bytes h.holds (cause.Limit l) g
 certificate_gives_none file name cs h cause.Usage g = g

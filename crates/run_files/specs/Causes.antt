@@ -21,6 +21,11 @@ abbrev pub FileGives : (List ℕ → Option (List ℕ)) → List ℕ → Cause �
 FileGives file name (cause.Limit limit.File) = IsTooLong file name
 FileGives file name e = ⊥
 
+-- a wheel's file gives this cause: it is no wheel file
+abbrev pub WheelGives : (List ℕ → Option (List ℕ)) → List ℕ → Cause → Type 0
+WheelGives file name (cause.Refused (refusal.Wheel no_wheel)) = (bytes : List ℕ) × (Holds file name bytes × HasFault bytes no_wheel.fault)
+WheelGives file name e = FileGives file name e
+
 -- a model's file gives this cause: it is no wheel file, or its wheel has too many places
 abbrev pub ModelGives : (List ℕ → Option (List ℕ)) → List ℕ → Cause → Type 0
 ModelGives file name (cause.Refused (refusal.Wheel no_wheel)) = (bytes : List ℕ) × (Holds file name bytes × HasFault bytes no_wheel.fault)

@@ -2,9 +2,9 @@
 #![tactic(auto)]
 
 mod lines;
-mod load;
+mod loads;
 mod model;
 
 pub use lines::{load_certificate, load_report};
-pub use load::{ended, load_capture, load_table};
-pub use model::{Model, load_model, load_wheel};
+pub use loads::{ended, load, load_capture, load_table};
+pub use model::{Model, load_any_wheel, load_model, load_wheel};

@@ -3,7 +3,7 @@ ghost use Rattle.run_ends.specs.Loads.{Loads};
 ghost use Rattle.run_files.specs.Files.{HasReport, HasCertificate};
 ghost use Rattle.run_files.specs.Causes.{ReportGives, CertificateGives};
 
-use crate::load::load;
+use crate::loads::load;
 use pair_certificate::{CertFault, CertLine, ReportFault, read_certificate, read_report};
 use run_ends::{Cause, Refusal};
 use shelf_io::Shelf;

@@ -6,9 +6,9 @@ ghost use Rattle.run_ends.specs.Loads.{Loads};
 ghost use Rattle.wheel_types.specs.Wheels.{IsWheel};
 ghost use Rattle.run_files.specs.Models.{IsFreshSet};
 ghost use Rattle.run_files.specs.Files.{HasWheel, HasPlacedWheel};
-ghost use Rattle.run_files.specs.Causes.{ModelGives};
+ghost use Rattle.run_files.specs.Causes.{ModelGives, WheelGives};
 
-use crate::load::load;
+use crate::loads::load;
 use edge_angles::{Edges, find_edges};
 use plain_motion::{PlaceFault, PlainSet};
 use run_ends::{Cause, Limit, NoWheel, Refusal};
@@ -25,13 +25,13 @@ pub struct Model {
     pub set: PlainSet,
 }
 
-/// Reads the wheel of a model's file.
+/// Reads the wheel of a file, however many places it has.
 ///
 /// # Errors
 /// `Refusal::Wheel` with the first fault of a file that is no wheel's; `ReadFault` where the shelf failed, `Limit::File` past 2^28
 /// bytes, or `Memory`.
-pub fn load_wheel<S: Shelf>(alloc: Global, shelf: &mut S, name: &str) -> Result<Wheel, Cause>
-    ensures { Loads (S.view shelf.old) (S.view shelf.old) (S.view shelf.new) name.now (ModelGives (S.view shelf.old).file name.now) (λ wheel. HasWheel (S.view shelf.old).file name.now wheel.parts) result }
+pub fn load_any_wheel<S: Shelf>(alloc: Global, shelf: &mut S, name: &str) -> Result<Wheel, Cause>
+    ensures { Loads (S.view shelf.old) (S.view shelf.old) (S.view shelf.new) name.now (WheelGives (S.view shelf.old).file name.now) (λ wheel. HasWheel (S.view shelf.old).file name.now wheel.parts) result }
 {
     let bytes = load(alloc, shelf, name)?;
     match read_wheel(alloc, &bytes) {
@@ -44,6 +44,16 @@ pub fn load_wheel<S: Shelf>(alloc: Global, shelf: &mut S, name: &str) -> Result<
             }
         }
     }
+}
+
+/// Reads the wheel of a model's file. It is `load_any_wheel`; its caller tells of a wheel that has too many places by `Limit::Places`.
+///
+/// # Errors
+/// Those of `load_any_wheel`.
+pub fn load_wheel<S: Shelf>(alloc: Global, shelf: &mut S, name: &str) -> Result<Wheel, Cause>
+    ensures { Loads (S.view shelf.old) (S.view shelf.old) (S.view shelf.new) name.now (ModelGives (S.view shelf.old).file name.now) (λ wheel. HasWheel (S.view shelf.old).file name.now wheel.parts) result }
+{
+    load_any_wheel(alloc, shelf, name)
 }
 
 /// The edges of a wheel.

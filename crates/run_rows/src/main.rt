@@ -10,6 +10,10 @@
 //! WHEEL | CAPTURE` is a replay that makes the file `cert`: what out got, what that file has, and how it ended. `taps | TAPS | WORDS |
 //! FAILING | WHEEL | CAPTURE` is a run with taps, where a call fails or notes is a stream that has room for so many bytes: `tally`, `first`,
 //! `stop N`, `memory N`, whose take wants memory from its report N on, and `close memory`, whose finish does; a comma stands between two.
+//! `table | WORDS | FAILING |
+//! IMAGE | CHANGES | CAPTURE` are words over the file `image`, which has what the file beside the program has, but for changes such as
+//! `956=3` (a byte), `first=100` (no more bytes) and `more=0` (one byte more), and over the file `capture`. `stimulus | WHEEL | FORM SEED
+//! GAPS` makes a stimulus and replays it: how many lines the report has, how many are lost, and how it ended.
 #![tactic(auto)]
 
 mod certificates;
@@ -19,7 +23,9 @@ mod images;
 mod long;
 mod memory;
 mod prefixes;
+mod stimuli;
 mod streams;
+mod tables;
 mod taps;
 mod wanting;
 
@@ -33,7 +39,9 @@ use prefixes::told_of_prefixes;
 use rows::{Tells, check};
 use std::alloc::{AllocError, Global};
 use std::io;
+use stimuli::told_of_stimulus;
 use streams::told_of_stream;
+use tables::told_of_table;
 use taps::told_of_taps;
 
 /// Tells what a run leaves: what out got, the status, and what notes got.
@@ -46,6 +54,9 @@ impl Tells for Runs<'_> {
     fn told(&self, alloc: Global, fields: &[String]) -> Result<Option<String>, AllocError> {
         match fields {
             [words, report] => told_of_files(self.rt, words, report),
+            [kind, wheel, asked] if kind.as_str() == "stimulus" => {
+                told_of_stimulus(alloc, wheel, asked)
+            }
             [kind, wheel, capture] => {
                 let files = (bytes_of(alloc, wheel)?, bytes_of(alloc, capture)?);
                 told_of_kind(alloc, kind, (&files.0, &files.1))
@@ -70,6 +81,9 @@ impl Tells for Runs<'_> {
             [kind, taps, words, failing, wheel, capture] if kind.as_str() == "taps" => {
                 let files = (bytes_of(alloc, wheel)?, bytes_of(alloc, capture)?);
                 told_of_taps(alloc, taps, words, failing, (&files.0, &files.1))
+            }
+            [kind, words, failing, image, changes, capture] if kind.as_str() == "table" => {
+                told_of_table(self.rt, words, failing, [image, changes, capture])
             }
             [words, failing, wheel, capture, report, cert] => {
                 told_of_check(alloc, words, failing, [wheel, capture, report, cert])

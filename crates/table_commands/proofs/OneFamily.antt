@@ -111,6 +111,7 @@ family_gives_none w few (cause.Limit (limit.States most)) m =
     few.few (subst (HasMore few.alphabet) (m.holds ∙ sym (same_limit few.alphabet m.alphabet s)) (more_of few.alphabet m.alphabet most s m.many))
 family_gives_none w few (cause.Limit limit.Places) g = g
 family_gives_none w few (cause.Limit limit.File) g = g
+family_gives_none w few (cause.Limit limit.Edges) g = g
 family_gives_none w few (cause.Refused r) g = g
 family_gives_none w few cause.Usage g = g
 family_gives_none w few cause.ReadFault g = g

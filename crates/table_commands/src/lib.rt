@@ -8,3 +8,4 @@ mod states;
 
 pub use laws::{one_size, sizes_end};
 pub use sizes::size;
+pub use states::count_states;

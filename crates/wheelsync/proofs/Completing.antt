@@ -7,7 +7,7 @@ use Rattle.shelf_io.specs.Touching.{RoseOut}
 use Rattle.capture_core.specs.declared.capture.End.{End}
 use Rattle.capture_core.specs.declared.capture.End.TheVariants.{Clean, Csv, Vcd}
 use Rattle.command_words.specs.Options.{Options}
-use Rattle.command_words.specs.Words.{Order, Replay, Import, Size, Compile, Check, writes_of}
+use Rattle.command_words.specs.Words.{Order, Replay, Import, Size, Compile, Check, Audit, Trace, Stim, SelfTest, writes_of}
 use Rattle.run_ends.specs.declared.cause.Done.{Done}
 use Rattle.run_ends.specs.declared.cause.Done.TheVariants as done
 use Rattle.run_ends.specs.declared.cause.Cause.{Cause}
@@ -40,7 +40,9 @@ use Rattle.compile_command.specs.Compile.{IsCompile}
 use Rattle.compile_command.proofs.Compiling.{compile_ends, compile_not_usage}
 use Rattle.table_commands.specs.Size.{IsSize, IsSized}
 use Rattle.table_commands.proofs.OneFamily.{family_gives_none}
-use Rattle.wheelsync.specs.Commands.{IsWork}
+use Rattle.image_commands.proofs.Ready.{audit_ends, trace_ends, audit_not_usage, trace_not_usage}
+use Rattle.stimulus_commands.proofs.Ready.{stim_ends, self_ends, stim_not_usage, self_not_usage}
+use Rattle.wheelsync.specs.Commands.{IsCommand, IsWork}
 use Rattle.wheelsync.proofs.Endings.{IsSlotsLine}
 
 -- the work is done, or wanted memory, or a write failed
@@ -108,25 +110,35 @@ size_settles v wheel work told steady (w, h) r =
     (λ p. writes_end (IsSized w) IsSettled rest (λ text end d. inl d.1.1.1) settled_stop p) n)
     r
 
-settles : (v : View) (taps : List Meaning) (order : Order) (work : Work) → IsTrue v.tells → IsTrue v.steady → AreReady v.file order → IsWork v taps (Some order) work → IsSettled work.end
-settles v taps (Replay m c f o) work told steady ready r = hands_end (IsReplayed v (tails_after taps) m c f o) IsSettled work (λ rest n. replayed_settles v (tails_after taps) m c f o rest told steady ready n) (inr (inr refl)) r
-settles v taps (Import source name) work told steady ready r = hands_end (IsImport v source name) IsSettled work (λ rest n. import_settles v source name rest told steady ready n) (inr (inr refl)) r
-settles v taps (Size wheel) work told steady ready r = hands_end (IsSize v wheel) IsSettled work (λ rest n. size_settles v wheel rest told steady ready n) (inr (inr refl)) r
-settles v taps (Compile wheel image) work told steady (w, h) r =
-    hands_end (IsCompile v wheel image) IsSettled work
-    (λ rest n. compile_ends IsSettled v wheel image w rest told steady h.wheel_file h.few (inl refl) (inr (inl refl)) (inr (inr refl)) n) (inr (inr refl)) r
+settles : (v : View) (taps : List Meaning) (order : Order) (work : Work) → IsTrue v.tells → IsTrue v.steady → AreReady v.file order → IsCommand v taps order work → IsSettled work.end
+settles v taps (Replay m c f o) work told steady ready r = replayed_settles v (tails_after taps) m c f o work told steady ready r
+settles v taps (Import source name) work told steady ready r = import_settles v source name work told steady ready r
+settles v taps (Size wheel) work told steady ready r = size_settles v wheel work told steady ready r
+settles v taps (Compile wheel image) work told steady (w, h) r = compile_ends IsSettled v wheel image w work told steady h.wheel_file h.few (inl refl) (inr (inl refl)) (inr (inr refl)) r
 settles v taps (Check wheel capture report cert o) work told steady (w, (c, (rs, (cs, (h, valid))))) r =
-    hands_end (IsCheck v wheel capture report cert o) IsSettled work
-    (λ rest n. check_ends done.Whole v wheel capture report cert o w c rs cs rest told steady h (valid_ends w c rs cs valid) n) (inr (inr refl)) r
+    check_ends done.Whole v wheel capture report cert o w c rs cs work told steady h (valid_ends w c rs cs valid) r
+settles v taps (Audit image) work told steady (b, (h, sound)) r = audit_ends IsSettled v image b work told steady h sound (inl refl) (inr (inl refl)) (inr (inr refl)) r
+settles v taps (Trace image capture o) work told steady (b, (c, h)) r = trace_ends IsSettled v image capture o b c work told steady h (inl refl) (inr (inl refl)) (inr (inr refl)) r
+settles v taps (Stim wheel form seed gaps file) work told steady (w, (h, has)) r =
+    stim_ends IsSettled v wheel form seed gaps file w work told steady h has (inl refl) (inr (inl refl)) (inr (inr refl)) r
+settles v taps (SelfTest wheel seed gaps) work told steady (w, (h, has)) r =
+    self_ends IsSettled v wheel seed gaps w work told steady h.wheel_file h.few has (inl refl) (inr (inl refl)) (inr (inr refl)) r
 
-denied : (v : View) (taps : List Meaning) (order : Order) (work : Work) → IsTrue v.tells → IsTrue v.steady → IsDenied v.file order → IsWork v taps (Some order) work → EndsIn done.No work.end
+denied : (v : View) (taps : List Meaning) (order : Order) (work : Work) → IsTrue v.tells → IsTrue v.steady → IsDenied v.file order → IsCommand v taps order work → EndsIn done.No work.end
 denied v taps (Check wheel capture report cert o) work told steady (w, (c, (rs, (cs, (h, not_valid))))) r =
-    hands_end (IsCheck v wheel capture report cert o) (EndsIn done.No) work
-    (λ rest n. check_ends done.No v wheel capture report cert o w c rs cs rest told steady h (invalid_ends w c rs cs not_valid) n) (inr (inr refl)) r
+    check_ends done.No v wheel capture report cert o w c rs cs work told steady h (invalid_ends w c rs cs not_valid) r
 denied v taps (Replay m c f o) work told steady d r = absurd d
 denied v taps (Import source name) work told steady d r = absurd d
 denied v taps (Size wheel) work told steady d r = absurd d
 denied v taps (Compile wheel image) work told steady d r = absurd d
+denied v taps (Audit image) work told steady d r = absurd d
+denied v taps (Trace image capture o) work told steady d r = absurd d
+denied v taps (Stim wheel form seed gaps file) work told steady d r = absurd d
+denied v taps (SelfTest wheel seed gaps) work told steady d r = absurd d
+
+-- and where out is handed on past the work
+work_ends : (x : Done) (v : View) (taps : List Meaning) (order : Order) (work : Work) → ((rest : Work) → IsCommand v taps order rest → EndsIn x rest.end) → IsWork v taps (Some order) work → EndsIn x work.end
+work_ends x v taps order work by r = hands_end (IsCommand v taps order) (EndsIn x) work by (inr (inr refl)) r
 
 -- where no write fails the status is that of the work that is done
 by_ended : (x : Done) (v w : View) (allows : Work → Type 0) (writes : Option (List ℕ)) (out new notes after : Stream) (s : Status) → (r : Ran allows writes v w out new notes after s) → IsTrue v.steady
@@ -167,8 +179,8 @@ pub completes : (v w : View) (taps : List Meaning) (order : Option Order) (out n
     → NoneFailed out new → NoneFailed notes after → IfSome order (λ order. IsDue v.file order s)
 completes v w taps None out new notes after s r told steady a b = tt
 completes v w taps (Some order) out new notes after s r told steady a b = (
-  λ ready. by_ended done.Whole v w (IsWork v taps (Some order)) (writes_of order) out new notes after s r steady a b (settles v taps order r.served.work told steady ready r.served.allowed),
-  λ no. by_ended done.No v w (IsWork v taps (Some order)) (writes_of order) out new notes after s r steady a b (denied v taps order r.served.work told steady no r.served.allowed),
+  λ ready. by_ended done.Whole v w (IsWork v taps (Some order)) (writes_of order) out new notes after s r steady a b (work_ends done.Whole v taps order r.served.work (λ rest n. settles v taps order rest told steady ready n) r.served.allowed),
+  λ no. by_ended done.No v w (IsWork v taps (Some order)) (writes_of order) out new notes after s r steady a b (work_ends done.No v taps order r.served.work (λ rest n. denied v taps order rest told steady no n) r.served.allowed),
 )
 
 -- ---- usage
@@ -218,16 +230,20 @@ size_not_usage v wheel work r =
     (λ few p. writes_end (IsSized w) (λ end. end ≡ Err cause.Usage → ⊥) rest (λ text end d. not_done_for_usage end d.1.1.1) (λ e s. not_cause e (write_not_usage e s)) p) n)
     r
 
+command_not_usage : (v : View) (taps : List Meaning) (order : Order) (work : Work) → IsCommand v taps order work → work.end ≡ Err cause.Usage → ⊥
+command_not_usage v taps (Replay m c f o) work r = replayed_not_usage v (tails_after taps) m c f o work r
+command_not_usage v taps (Import source name) work r = import_not_usage v source name work r
+command_not_usage v taps (Size wheel) work r = size_not_usage v wheel work r
+command_not_usage v taps (Compile wheel image) work r = compile_not_usage v wheel image work r
+command_not_usage v taps (Check wheel capture report cert o) work r = check_not_usage v wheel capture report cert o work r
+command_not_usage v taps (Audit image) work r = audit_not_usage v image work r
+command_not_usage v taps (Trace image capture o) work r = trace_not_usage v image capture o work r
+command_not_usage v taps (Stim wheel form seed gaps file) work r = stim_not_usage v wheel form seed gaps file work r
+command_not_usage v taps (SelfTest wheel seed gaps) work r = self_not_usage v wheel seed gaps work r
+
 work_not_usage : (v : View) (taps : List Meaning) (order : Order) (work : Work) → IsWork v taps (Some order) work → work.end ≡ Err cause.Usage → ⊥
-work_not_usage v taps (Replay m c f o) work r =
-    hands_end (IsReplayed v (tails_after taps) m c f o) (λ end. end ≡ Err cause.Usage → ⊥) work (λ rest n. replayed_not_usage v (tails_after taps) m c f o rest n) (not_cause cause.WriteFault (λ is. cc)) r
-work_not_usage v taps (Import source name) work r =
-    hands_end (IsImport v source name) (λ end. end ≡ Err cause.Usage → ⊥) work (λ rest n. import_not_usage v source name rest n) (not_cause cause.WriteFault (λ is. cc)) r
-work_not_usage v taps (Size wheel) work r = hands_end (IsSize v wheel) (λ end. end ≡ Err cause.Usage → ⊥) work (λ rest n. size_not_usage v wheel rest n) (not_cause cause.WriteFault (λ is. cc)) r
-work_not_usage v taps (Compile wheel image) work r =
-    hands_end (IsCompile v wheel image) (λ end. end ≡ Err cause.Usage → ⊥) work (λ rest n. compile_not_usage v wheel image rest n) (not_cause cause.WriteFault (λ is. cc)) r
-work_not_usage v taps (Check wheel capture report cert o) work r =
-    hands_end (IsCheck v wheel capture report cert o) (λ end. end ≡ Err cause.Usage → ⊥) work (λ rest n. check_not_usage v wheel capture report cert o rest n) (not_cause cause.WriteFault (λ is. cc)) r
+work_not_usage v taps order work r =
+    hands_end (IsCommand v taps order) (λ end. end ≡ Err cause.Usage → ⊥) work (λ rest n. command_not_usage v taps order rest n) (not_cause cause.WriteFault (λ is. cc)) r
 
 usage_end : (end : Result Done Cause) → status_of end ≡ status.Usage → end ≡ Err cause.Usage
 usage_end (Ok done.Whole) is = absurd (cc)

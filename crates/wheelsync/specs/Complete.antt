@@ -5,10 +5,14 @@ use Rattle.wheel_types.specs.declared.parts.WheelParts.{WheelParts}
 use Rattle.capture_core.specs.declared.capture.Capture.{Capture}
 use Rattle.capture_core.specs.declared.capture.End.TheVariants.{Clean}
 use Rattle.command_words.specs.Options.{Options}
-use Rattle.run_files.specs.Files.{HasPlacedWheel, HasTable}
+use Rattle.run_files.specs.Files.{HasWheel, HasPlacedWheel, HasTable}
 use Rattle.named_captures.specs.Captures.{HasNamedCapture}
 use Rattle.table_commands.specs.States.{HasFewStates}
-use Rattle.command_words.specs.Words.{Order, Replay, Import, Size, Compile, Check}
+use Rattle.command_words.specs.Words.{Order, Replay, Import, Size, Compile, Check, Audit, Trace, Stim, SelfTest}
+use Rattle.table_images.specs.Images.{IsSoundImage}
+use Rattle.image_commands.specs.Images.{HasImage}
+use Rattle.image_commands.specs.TraceEnding.{AreTraced}
+use Rattle.stimulus_commands.specs.Stimuli.{HasStimulus}
 use Rattle.wheel_types.specs.declared.verdict.Report.{Report}
 use Rattle.pair_certificate.specs.declared.line.CertLine.{CertLine}
 use Rattle.certificate_checker.specs.Valid.{IsValid}
@@ -31,7 +35,8 @@ pub record IsCounted (file : List ℕ → Option (List ℕ)) (wheel : List ℕ) 
   pub wheel_file : HasPlacedWheel file wheel w
   pub few : HasFewStates w
 
--- the files are there, short enough and accepted, and a certificate that is to be checked is valid
+-- the files are there, short enough and accepted: a certificate that is to be checked is valid, an image that is to be audited holds the
+-- table of its own wheel, and a wheel that is to have a stimulus has one
 abbrev pub AreReady : (List ℕ → Option (List ℕ)) → Order → Type 0
 AreReady file (Replay model capture_name cert o) = (w : WheelParts) × ((capture : Capture) × AreAccepted file model capture_name o w capture)
 AreReady file (Import source name) = (slots : List ℕ) × HasTable file source name slots
@@ -39,6 +44,10 @@ AreReady file (Size wheel) = (w : WheelParts) × IsCounted file wheel w
 AreReady file (Compile wheel image) = (w : WheelParts) × IsCounted file wheel w
 AreReady file (Check wheel capture_name report cert o) =
     (w : WheelParts) × ((capture : Capture) × ((rs : List Report) × ((cs : List CertLine) × (AreChecked file wheel capture_name report cert o w capture rs cs × IsValid w capture.instants rs cs))))
+AreReady file (Audit image) = (bytes : List ℕ) × (HasImage file image bytes × IsSoundImage bytes)
+AreReady file (Trace image capture_name o) = (bytes : List ℕ) × ((capture : Capture) × AreTraced file image capture_name o bytes capture)
+AreReady file (Stim wheel form seed gaps made) = (w : WheelParts) × (HasWheel file wheel w × HasStimulus w seed gaps)
+AreReady file (SelfTest wheel seed gaps) = (w : WheelParts) × (IsCounted file wheel w × HasStimulus w seed gaps)
 
 -- the files of a check are there, short enough and accepted, and its certificate is not valid
 abbrev pub IsDenied : (List ℕ → Option (List ℕ)) → Order → Type 0
@@ -48,6 +57,10 @@ IsDenied file (Replay model capture_name cert o) = ⊥
 IsDenied file (Import source name) = ⊥
 IsDenied file (Size wheel) = ⊥
 IsDenied file (Compile wheel image) = ⊥
+IsDenied file (Audit image) = ⊥
+IsDenied file (Trace image capture_name o) = ⊥
+IsDenied file (Stim wheel form seed gaps made) = ⊥
+IsDenied file (SelfTest wheel seed gaps) = ⊥
 
 -- the status is the one that the files make due, or want of memory: done where they are accepted, no where a check's certificate is not valid
 abbrev pub IsDue : (List ℕ → Option (List ℕ)) → Order → Status → Type 0

@@ -13,8 +13,16 @@ const OVERVIEW: &[u8] = b"wheelsync: what crank and cam edges prove about an eng
         print the sizes of a wheel's table
     wheelsync compile WHEEL IMAGE
         make a file of the image of a wheel's table
+    wheelsync audit IMAGE
+        print whether an image holds the table of its own wheel
+    wheelsync trace IMAGE CAPTURE [NAMES]
+        print the state of an image's table after each instant
     wheelsync check WHEEL CAPTURE REPORT CERT [NAMES]
         print whether a certificate shows a report right
+    wheelsync stim WHEEL vcd|csv SEED GAPS FILE
+        make a capture of an engine that keeps a wheel's limits
+    wheelsync self WHEEL SEED GAPS
+        replay an engine that stim draws, and count the verdicts
 
     wheelsync COMMAND --help    the page of a command
     wheelsync --help            this page, as -h and help
@@ -34,7 +42,8 @@ option is given.
 
 The status is 0 done, 1 a file is refused, 2 no such command, 3 a read failed, 4
 a write failed, 5 out of memory, 6 past a limit, 7 a certificate is not valid. A
-line on standard error names the cause, but for 0 and 7.
+line on standard error names the cause, but for 0 and 7. After it replay tells
+there how many instants were at, open and lost, and which was the first at.
 
 In the folder of the sources: README.md begins; docs/WHEELS.md is on wheel
 files, docs/CAPTURES.md on captures of other tools, docs/READING.md on every
@@ -63,6 +72,11 @@ is opened.
 NAMES are --time NAME, --crank NAME, --cam1 NAME, --cam2 NAME, for columns and
 signals.
 
+At its end two lines come on standard error, after that of a cause if there is
+one: how many instants were at, open and lost, and the number of the first at,
+or none. They do not come where memory was wanting, or the capture was not
+opened.
+
 Example:
 
     $ wheelsync replay examples/three-teeth.toml examples/three-teeth.csv
@@ -70,6 +84,8 @@ Example:
     2 15000000000000 C+ open 1:0:0 2:0:0
     3 30000000000000 C+ at 2 slot 4
     4 60000000000000 C+ at 0 slot 0
+    tally at 2 open 2 lost 0
+    first at 3
 
 Statuses: 0 done; 1 the wheel or the capture is refused, after the lines of the
 instants before its fault; 2 usage; 3 a read failed; 4 a write failed; 5 out of
@@ -131,6 +147,53 @@ names. At 1, 2, 3 and 6 no file changes; at 4 and 5 a file that was made has the
 first part of the image.
 ";
 
+const AUDIT: &[u8] = b"wheelsync audit IMAGE
+    print whether an image holds the table of its own wheel
+
+The wheel is the one that the image names. Where each place, cut, set and entry
+of a row is as that wheel has it, a line says how many states and places there
+are, and the wheel file follows, in the full form. Else the first rule that is
+broken, or the first difference, comes on standard error.
+
+Example:
+
+    $ wheelsync compile examples/three-teeth.toml three-teeth.image
+    $ wheelsync audit three-teeth.image | head -n 1
+    sound states 24 places 3
+
+Statuses: 0 sound; 1 the image breaks a rule of its layout (image:) or differs
+from the table of its wheel (audit:); 2 usage; 3 a read failed; 4 a write
+failed; 5 out of memory; 6 the file has more than 268435456 bytes.
+";
+
+const TRACE: &[u8] = b"wheelsync trace IMAGE CAPTURE [NAMES]
+    print the state of an image's table after each instant
+
+For each instant one line comes on standard output, INDEX TIME SHAPE state Q: a
+line as replay's, with the number of the state that the table's walk stands in
+after it. After a lost instant this is the state in which the next window
+begins. A decoder that walks the same table can be compared, instant by instant.
+
+The image keeps the rules of its layout; whether its table is sound is asked by
+audit, and not here. A capture with a fault is refused before any line.
+
+NAMES are --time NAME, --crank NAME, --cam1 NAME, --cam2 NAME, for columns and
+signals.
+
+Example:
+
+    $ wheelsync compile examples/three-teeth.toml three-teeth.image
+    $ wheelsync trace three-teeth.image examples/three-teeth.csv
+    1 0 C+ state 2
+    2 15000000000000 C+ state 7
+    3 30000000000000 C+ state 20
+    4 60000000000000 C+ state 8
+
+Statuses: 0 done; 1 the image or the capture is refused; 2 usage; 3 a read
+failed; 4 a write failed; 5 out of memory; 6 a file has more than 268435456
+bytes.
+";
+
 const CHECK: &[u8] = b"wheelsync check WHEEL CAPTURE REPORT CERT [NAMES]
     print whether a certificate shows a report right
 
@@ -153,6 +216,51 @@ failed; 5 out of memory; 6 a file has more than 268435456 bytes or the wheel
 more than 16384 places; 7 no.
 ";
 
+const STIM: &[u8] = b"wheelsync stim WHEEL vcd|csv SEED GAPS FILE
+    make a capture of an engine that keeps a wheel's limits
+
+FILE gets a value change dump, or comma-separated values, of an engine over GAPS
+gaps between crank edges, from 1 to 1000000. Its first edge, its speeds and
+where the cams' edges lie in their ranges are drawn by SEED, from 0 to
+18446744073709551615. One wheel, seed and number of gaps give the same bytes on
+each machine. FILE is made, or written over, once its bytes are there; nothing
+comes on standard output.
+
+Example:
+
+    $ wheelsync stim examples/three-teeth.toml csv 1 50 engine.csv
+    $ wheelsync replay examples/three-teeth.toml engine.csv | wc -l
+    tally at 50 open 1 lost 0
+    first at 2
+    51
+
+Statuses: 0 done; 1 the wheel is refused, or a gap has no time that keeps the
+limits (stuck GAP LOW HIGH); 2 usage; 3 a read failed; 4 a write failed; 5 out
+of memory; 6 the wheel's file has more than 268435456 bytes, or the engine more
+than 4000000 edges. At 1, 2, 3 and 6 no file changes; at 4 and 5 a file that was
+made has the first part of the capture.
+";
+
+const SELF_TEST: &[u8] = b"wheelsync self WHEEL SEED GAPS
+    replay an engine that stim draws, and count the verdicts
+
+The engine is the one that stim draws of the same wheel, seed and number of
+gaps. The line tells how many instants it has, how many of them are at, open and
+lost, and the number of the first at, or 0. lost is 0: the engine keeps the
+wheel's limits.
+
+Example:
+
+    $ wheelsync self examples/three-teeth.toml 1 1000
+    instants 1001 at 1000 open 1 lost 0 first 2
+
+Statuses: 0 done; 1 the wheel is refused, or a gap has no time that keeps the
+limits (stuck GAP LOW HIGH); 2 usage; 3 a read failed; 4 a write failed; 5 out
+of memory; 6 the file has more than 268435456 bytes, the wheel more than 16384
+places, its table more states than the limit that the line names, or the engine
+more than 4000000 edges.
+";
+
 const VERSION: &[u8] = b"wheelsync 0.1.0\n";
 
 /// The page of a command.
@@ -162,7 +270,11 @@ fn page_of(command: &str) -> Option<&'static [u8]> {
         "import" => Some(IMPORT),
         "size" => Some(SIZE),
         "compile" => Some(COMPILE),
+        "audit" => Some(AUDIT),
+        "trace" => Some(TRACE),
         "check" => Some(CHECK),
+        "stim" => Some(STIM),
+        "self" => Some(SELF_TEST),
         _ => None,
     }
 }

@@ -14,7 +14,8 @@ use std::alloc::AllocError;
 use std::env;
 use std::io::{ErrorKind, IsTerminal};
 use std::process::ExitCode;
-use wheelsync::{Status, run};
+use tap_board::{FirstFix, Tally};
+use wheelsync::{Status, Tap, run};
 
 /// The words after the program's name, or the status where there are none to be had.
 fn words_of(rt: &HostRuntime) -> Result<Vec<String>, Status> {
@@ -52,6 +53,20 @@ fn show<O: Sink>(page: &[u8], out: &mut O) -> Result<Done, Cause>
     hand_on(end, out)
 }
 
+/// Serves words over the files of the system with the taps of the program, a tally and a first fix. An error is want of memory for these.
+fn serve_with_taps<O: Sink, N: Sink>(
+    rt: &HostRuntime,
+    words: &[String],
+    out: &mut O,
+    notes: &mut N,
+) -> Result<Status, AllocError> {
+    let mut taps: Vec<Box<dyn Tap>> = Vec::new(rt.alloc());
+    taps.push(Box::new(rt.alloc(), Tally::new(rt.alloc()))?)?;
+    taps.push(Box::new(rt.alloc(), FirstFix::new(rt.alloc()))?)?;
+    let mut shelf = RealShelf::new(rt.alloc(), rt);
+    Ok(run(rt.alloc(), words, &mut shelf, out, notes, taps))
+}
+
 fn main(rt: HostRuntime) -> ExitCode {
     let words = match words_of(&rt) {
         Ok(words) => words,
@@ -63,17 +78,10 @@ fn main(rt: HostRuntime) -> ExitCode {
     let mut notes = StdSink::new(rt.alloc(), rt.stderr(), true);
     let status = match answer(&words) {
         Some(page) => finish(show(page, &mut out), &[], &mut notes),
-        None => {
-            let mut shelf = RealShelf::new(rt.alloc(), &rt);
-            run(
-                rt.alloc(),
-                &words,
-                &mut shelf,
-                &mut out,
-                &mut notes,
-                Vec::new(rt.alloc()),
-            )
-        }
+        None => match serve_with_taps(&rt, &words, &mut out, &mut notes) {
+            Ok(status) => status,
+            Err(AllocError) => Status::Memory,
+        },
     };
     ExitCode::from(status as u8)
 }

@@ -1,0 +1,5 @@
+pub mod Images
+pub mod Audit
+pub mod Trace
+pub mod Ending
+pub mod TraceEnding
