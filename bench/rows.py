@@ -7,6 +7,7 @@ Rows of sizes in crates/wheel_rows/stdin and all of crates/image_rows/stdin and 
 image is made anew from the line before it, `-- image SLOTS | PARTS:`. Other lines are printed as they stand.
 """
 import re
+import struct
 import sys
 from itertools import groupby
 
@@ -14,7 +15,7 @@ from audits import told_of_audit
 from images import Fields, reported, told_of_bytes, walked
 from reference import CHANNELS, Wheel
 from stimulus import Generator, told as told_of_stimulus, totals as totals_of_stimulus
-from tables import MOST, image, size
+from tables import MOST, image, letters, size
 
 KINDS = ("dead", "at %d", "open %d %d")
 UNITS = {"fs": 1, "ms": 10**12}
@@ -78,6 +79,23 @@ def instants_of(text):
     return instants
 
 
+def told_of_entries(b, begin):
+    """The audits of an image with each entry of its rows changed to each other state of the phase that is due there, or to 0."""
+    fields, lines, there = Fields(b), [], 0
+    phases = [phase for phase, *_ in fields.entries(5)]
+    for state, phase in enumerate(phases):
+        due = letters(phase, fields.times, fields.ratios) if state else []
+        for column, after in sorted(due):
+            entry = state * fields.width + column
+            for to in [to for to in range(fields.states) if to == 0 or phases[to] == after]:
+                if to != fields.row(state)[column]:
+                    told = told_of_audit(image_of(b.hex(), "%d=%s" % (begin + 2 * entry, struct.pack("<H", to).hex())))
+                    there += told.startswith("Mismatch { state: %d, letter: %d," % (state, column))
+                    lines.append("%d %d Some(%s)\n" % (entry, to, told))
+    counts = len(lines), there, sums_of("".join(lines).encode())
+    return "%d changes, %d mismatches there; lines of %s" % counts
+
+
 def told_of_walk(b, text):
     steps = [(told_of_kind(*verdict), state, reads) for verdict, state, reads, _ in walked(Fields(b), instants_of(text))]
     return "; ".join("%s in %d by %d" % step for step in steps).replace("dead", "lost")
@@ -131,7 +149,10 @@ def told_of_sums(slots, parts, limit):
     refused = refusal(size(wheel, int(limit)))
     if refused:
         return refused
-    b = image(wheel)
+    return sums_of(image(wheel))
+
+
+def sums_of(b):
     return "%d bytes, sums %d %d" % (len(b), sum(b), sum(at * byte for at, byte in enumerate(b, 1)) % 2**64)
 
 
@@ -162,12 +183,13 @@ def told_of(kind, fields):
     if kind in ("verify", "prefixes", "fields", "audit"):
         tells = {"verify": told_of_bytes, "prefixes": told_of_prefixes, "fields": told_of_fields, "audit": told_of_audit}
         return tells[kind](image_of(*fields))
-    if kind in ("flips", "walk", "report", "state"):
+    if kind in ("flips", "entries", "walk", "report", "state"):
         b = image_of(*fields[1:])
         fault = told_of_bytes(b)
         if fault != "image":
             return fault
-        tells = {"flips": told_of_flips, "walk": told_of_walk, "report": told_of_report, "state": lambda b, state: told_of_state(b, int(state))}
+        tells = {"flips": told_of_flips, "walk": told_of_walk, "report": told_of_report}
+        tells |= {"state": lambda b, state: told_of_state(b, int(state)), "entries": lambda b, begin: told_of_entries(b, int(begin))}
         return tells[kind](b, fields[0])
     return None
 

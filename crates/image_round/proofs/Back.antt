@@ -25,7 +25,7 @@ word_within : (q w n states total : ℕ) → q < states → w < n → total ≡ 
 word_within q w n states total lt small e = let more : n * (q + 1) ≤ n * states = mul-le-mul_left n (omega (arith, lt)) in omega (arith, more, small, e)
 
 module _ (p : ImageParts) (k : KeepsRules p) where
-  kind_back : (q : ℕ) → q < states_of p → kind_at (image_bytes p) q ≡ kind_of p q
+  pub kind_back : (q : ℕ) → q < states_of p → kind_at (image_bytes p) q ≡ kind_of p q
   kind_back q lt =
       let one = kind_word_is p (fits p k) q 1 lt (omega arith) in
       let two = kind_word_is p (fits p k) q 2 lt (omega arith) in

@@ -1,5 +1,5 @@
 -- The bytes of parts that keep the rules keep the table of the layout.
-use Rattle.std.proofs.Common.{◌≡◌, ◌⊎◌, ℕ, ◌+◌, ◌*◌, ◌<◌, ◌≤◌, List, ◌++◌, length, get_or, sym, ap, subst, ◌∙◌, arith, take, drop}
+use Rattle.std.proofs.Common.{◌≡◌, ◌⊎◌, ℕ, ◌+◌, ◌*◌, ◌^◌, ◌<◌, ◌≤◌, List, ◌++◌, length, get_or, sym, ap, subst, ◌∙◌, arith, take, drop}
 use Rattle.std.proofs.Math.Nat.{mul-le-mul_right}
 use Rattle.std.proofs.lemmas.List.{ext_get_or, take-append-drop, get_or-take, length-take-le, get_or-replicate, length-replicate, get_or_default}
 use Rattle.std.specs.Prelude.{IsTrue, replicate}
@@ -10,10 +10,11 @@ use Rattle.image_layout.specs.declared.parts.ImageParts.{ImageParts}
 use Rattle.image_layout.specs.Layout.{time_total, ratio_total, row_width}
 use Rattle.image_layout.specs.Letters.{letter_of, leads_to}
 use Rattle.image_layout.specs.Fields.{place_at}
-use Rattle.image_layout.specs.Parts.{image_bytes}
+use Rattle.image_layout.specs.Parts.{image_bytes, body, AreSmall}
 use Rattle.image_layout.specs.Tables as tables
 use Rattle.image_layout.proofs.ReadBack.{place_is, time_total_is, ratio_total_is}
 use Rattle.image_layout.proofs.PartsKept.{time_cuts_keep, ratio_cuts_keep, rows_keep}
+use Rattle.table_images.proofs.BodySize.{body_short}
 use Rattle.table_images.proofs.PartsLaid.{HasCounts, header_keeps, slots_keep, places_keep}
 use Rattle.table_images.proofs.StatesLaid.{IsKindOf, kinds_keep, members_keep}
 use Rattle.image_round.specs.Parts.{KeepsRules, Says, states_of, words_of, width_of, phase_of, kind_of}
@@ -88,3 +89,6 @@ module _ (p : ImageParts) (k : KeepsRules p) where
     members = members;
     rows = rows;
   }
+
+pub writable : (p : ImageParts) → KeepsRules p → AreSmall p × (72 + length (body p) < 2 ^ 32)
+writable p k = (k.sizes.small, body_short p k.sizes.small)

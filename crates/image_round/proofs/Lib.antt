@@ -6,3 +6,4 @@ pub mod PartsOf
 pub mod ReadRules
 pub mod Rewritten
 pub mod Accepted
+pub mod Determined

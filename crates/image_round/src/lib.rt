@@ -3,4 +3,7 @@
 
 mod laws;
 
-pub use laws::{accepted_images_are_written, images_read_back, kept_parts_are_images};
+pub use laws::{
+    accepted_images_are_written, images_read_back, kept_parts_are_images,
+    kept_parts_can_be_written, parts_are_determined,
+};

@@ -37,7 +37,7 @@ fn written_out(alloc: Global, text: &str) -> Bytes {
 }
 
 /// Writes bytes from a place on, as far as there are bytes there.
-fn write_at(bytes: &mut [u8], at: usize, part: &[u8]) {
+pub fn write_at(bytes: &mut [u8], at: usize, part: &[u8]) {
     for (byte, new) in bytes.iter_mut().skip(at).zip(part.iter()) {
         *byte = *new;
     }

@@ -10,7 +10,10 @@
 //! `sums | SLOTS | PARTS | LIMIT` of the bytes that it is compiled to within a limit on its states their number, their sum, and the sum
 //! of each one times its place and one; both tell why there are none. Slots and parts are those of the program wheel_rows.
 //!
-//! `audit | IMAGE` tells the states and places of an image that holds the table of its own wheel, or the first difference.
+//! `audit | IMAGE` tells the states and places of an image that holds the table of its own wheel, or the first difference. `entries |
+//! FROM | IMAGE` changes each entry of the rows, which begin at the byte FROM, to each other state in turn, and tells how many of the
+//! changes keep the layout, how many of these are audited to mismatch at that very entry, and the length and sums of their lines: the
+//! entry, the state that it leads to, and the first difference.
 //!
 //! An image is bytes in hexadecimal, in which `3*00` is `000000` and blanks say nothing. It may be followed by changes, as in
 //! `verify | IMAGE | first=100 and=00 8=6500`: its first 100 bytes alone, then a byte 0 at the end, and then two other bytes from
@@ -19,6 +22,7 @@
 
 mod audits;
 mod bytes;
+mod entries;
 mod faults;
 mod fields;
 mod reports;
@@ -28,6 +32,7 @@ mod wheels;
 
 use audits::told_of_audit;
 use bytes::image_of;
+use entries::told_of_entries;
 use faults::{text_of_fault, told_of_flips, told_of_prefixes};
 use fields::told_of_fields;
 use image_format::View;
@@ -63,6 +68,7 @@ fn told_of_bytes(alloc: Global, kind: &str, asked: &str, bytes: Vec<u8>) -> Told
     match kind {
         "prefixes" => Ok(Some(told_of_prefixes(alloc, bytes.as_slice())?)),
         "flips" => told_of_flips(alloc, asked, bytes),
+        "entries" => told_of_entries(alloc, asked, bytes),
         _ => match View::verify(bytes.as_slice()) {
             Ok(_) if kind == "verify" => Ok(Some(text_of_fault(alloc, None)?)),
             Ok(view) => told_of_view(alloc, kind, asked, &view),

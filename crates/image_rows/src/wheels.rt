@@ -50,7 +50,7 @@ fn compared(alloc: Global, bytes: &[u8], wanted: &[u8]) -> Result<String, AllocE
 }
 
 /// The length of bytes, their sum, and the sum of each one times its place and one, by 64 bits.
-fn summed(alloc: Global, bytes: &[u8]) -> Result<String, AllocError> {
+pub fn summed(alloc: Global, bytes: &[u8]) -> Result<String, AllocError> {
     let mut sum = 0u64;
     let mut weighed = 0u64;
     let mut weight = 0u64;

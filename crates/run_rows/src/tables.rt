@@ -11,16 +11,18 @@ fn spoil(bytes: &mut Vec<u8>, change: &str) -> Result<(), AllocError> {
     let Some((place, value)) = change.split_once('=') else {
         return Ok(());
     };
-    let value = value.parse::<usize>().unwrap_or(0);
-    match place {
-        "first" => bytes.truncate(value),
-        "more" => bytes.push(value as u8)?,
-        _ => {
-            let at = place.parse::<usize>().unwrap_or(usize::MAX);
-            if at < bytes.len() {
-                bytes[at] = value as u8;
-            }
-        }
+    if place == "first" {
+        bytes.truncate(value.parse::<usize>().unwrap_or(0));
+        return Ok(());
+    }
+    let byte = value.parse::<u8>().unwrap_or(0);
+    if place == "more" {
+        bytes.push(byte)?;
+        return Ok(());
+    }
+    let at = place.parse::<usize>().unwrap_or(usize::MAX);
+    if at < bytes.len() {
+        bytes[at] = byte;
     }
     Ok(())
 }
