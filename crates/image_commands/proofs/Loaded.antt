@@ -1,6 +1,10 @@
 -- A file that is loaded, and the image of its bytes.
-use Rattle.std.proofs.Common.{◌≡◌, ℕ, inl, inr, List, Option, Err}
+use Rattle.std.proofs.Common.{◌≡◌, ℕ, inl, inr, List, Option, None, Result, Err, subst}
 use Rattle.shelf_traits.specs.Shelf.{View}
+use Rattle.shelf_io.specs.Touching.{Opened, Touches}
+use Rattle.wheel_types.specs.declared.parts.WheelParts.{WheelParts}
+use Rattle.capture_core.specs.declared.capture.Capture.{Capture}
+use Rattle.command_words.specs.Options.{Options}
 use Rattle.image_layout.specs.Tables.{KeepsLayout}
 use Rattle.run_ends.specs.declared.cause.Cause.{Cause}
 use Rattle.run_ends.specs.declared.cause.Cause.TheVariants as cause
@@ -8,9 +12,10 @@ use Rattle.run_ends.specs.declared.cause.Refusal.TheVariants as refusal
 use Rattle.run_ends.specs.declared.cause.Limit.TheVariants as limit
 use Rattle.run_ends.specs.Works.{Told, StopsRead}
 use Rattle.run_ends.specs.Loads.{HasRead, Loads}
-use Rattle.run_ends.proofs.Loading.{stays}
+use Rattle.run_ends.proofs.Loading.{stays, loads_before}
 use Rattle.run_files.specs.Files.{Holds}
 use Rattle.run_files.specs.Causes.{FileGives}
+use Rattle.named_captures.specs.Captures.{HasCleanCapture, CleanGives}
 use Rattle.image_commands.specs.Images.{HasImage, LayoutGives, ImageGives}
 
 -- a file gives no cause that an image's file does not give
@@ -64,3 +69,10 @@ no_room v w name gives accepts read same = (stays _ _ _ (λ is. cc) same, inr (r
 -- bytes that keep the layout are an image
 pub laid : (v w : View) (name bytes : List ℕ) → Told v (Holds v.file name bytes) × (w.faults_in ≡ v.faults_in) → KeepsLayout bytes → Told v (HasImage v.file name bytes) × (w.faults_in ≡ v.faults_in)
 laid v w name bytes (holds, same) keeps = ((λ told. record { holds = holds told; layout = keeps }), same)
+
+-- a capture that is loaded over a wheel is loaded over the same wheel, by another name, of the files that were told before
+pub clean_before : (t v w : View) (opened : List Opened) (name : List ℕ) (p q : WheelParts) (o : Options) (r : Result Capture Cause) → p ≡ q → Touches t v opened None None
+    → Loads {X = Capture} v v w name (CleanGives v.file name p o) (HasCleanCapture v.file name p o) r → Loads {X = Capture} t v w name (CleanGives t.file name q o) (HasCleanCapture t.file name q o) r
+clean_before t v w opened name p q o r same touches h =
+    loads_before {X = Capture} t v w opened name (λ file. CleanGives file name q o) (λ file. HasCleanCapture file name q o) r touches
+    (subst (λ (x : WheelParts). Loads {X = Capture} v v w name (CleanGives v.file name x o) (HasCleanCapture v.file name x o) r) same h)

@@ -2,21 +2,16 @@ use Rattle.std.proofs.Common.{◌≡◌, ◌∙◌, ap, subst, Err, Ok, List, �
 use Rattle.std.proofs.lemmas.Result.{err_from_is_err_and}
 use Rattle.std.specs.Global.{Vec}
 use Rattle.std.specs.Io.KnownBytes.{Appends}
-use Rattle.wheel_types.specs.declared.parts.WheelParts.{WheelParts}
 use Rattle.wheel_types.specs.declared.instant.Instant.{Instant}
-use Rattle.capture_core.specs.declared.capture.Capture.{Capture}
 use Rattle.image_layout.specs.Fields.{wheel_parts_of}
 use Rattle.image_layout.specs.Tables.{KeepsLayout}
 use Rattle.command_words.specs.Options.{options_of}
-use Rattle.run_ends.specs.Loads.{Loads}
 use Rattle.run_ends.specs.Prefixes.{AppendsPrefix}
-use Rattle.run_ends.proofs.Loading.{loads_before}
 use Rattle.run_ends.proofs.Serving.{stops, goes_on, rises}
-use Rattle.named_captures.specs.Captures.{HasCleanCapture, CleanGives}
 use Rattle.run_files.specs.Files.{Holds}
 use Rattle.image_commands.specs.Images.{HasImage, LayoutGives, ImageGives}
 use Rattle.image_commands.specs.Trace.{trace_text}
-use Rattle.image_commands.proofs.Loaded.{not_loaded, not_laid, no_room, laid}
+use Rattle.image_commands.proofs.Loaded.{not_loaded, not_laid, no_room, laid, clean_before}
 use Rattle.image_commands.proofs.Traced.{trace_whole, trace_front}
 use Rattle.image_commands.proofs.trace.trace_file.Goals as goal
 
@@ -60,8 +55,7 @@ returns-in_err-capture g c =
     let same : c.in_ok-view.view.bytes.now ≡ b = c.in_ok-view.ensures.bytes ∙ c.deref.ensures.value in
     let own : c.in-Ok.watched.wheel.parts ≡ wheel_parts_of b = c.in-Ok.ensures.wheel ∙ ap wheel_parts_of same in
     let image = laid v u c.args.image.now b first.1 (subst KeepsLayout c.deref.ensures.value c.in_ok-view.ensures.layout) in
-    let second = loads_before {X = Capture} v u (g.S.Shelf.view c.load_clean.new.shelf) _ name (λ file. CleanGives file name (wheel_parts_of b) o) (λ file. HasCleanCapture file name (wheel_parts_of b) o) (Err c.in_err-capture.field-0.0) first.0.touches
-    (subst (λ (p : WheelParts). Loads {X = Capture} u u (g.S.Shelf.view c.load_clean.new.shelf) name (CleanGives u.file name p o) (HasCleanCapture u.file name p o) (Err c.in_err-capture.field-0.0)) own c.in_err-capture.ensures.loads) in
+    let second = clean_before v u _ _ name c.in-Ok.watched.wheel.parts (wheel_parts_of b) o (Err c.in_err-capture.field-0.0) own first.0.touches c.in_err-capture.ensures.loads in
     rw (p.1, p.2) (goes_on _ _ _ _ _ _ _ _ b _ _ _ _ _ first.0 image (stops _ _ _ _ _ _ _ _ _ _ second))
 
 pub returns-in_err-put_trace : goal.returns-in_err-put_trace
@@ -76,8 +70,7 @@ returns-in_err-put_trace g c =
     let same : c.in_ok-view.view.bytes.now ≡ b = c.in_ok-view.ensures.bytes ∙ c.deref.ensures.value in
     let own : c.in-Ok.watched.wheel.parts ≡ wheel_parts_of b = c.in-Ok.ensures.wheel ∙ ap wheel_parts_of same in
     let image = laid v u c.args.image.now b first.1 (subst KeepsLayout c.deref.ensures.value c.in_ok-view.ensures.layout) in
-    let second = loads_before {X = Capture} v u (g.S.Shelf.view c.load_clean.new.shelf) _ name (λ file. CleanGives file name (wheel_parts_of b) o) (λ file. HasCleanCapture file name (wheel_parts_of b) o) (Ok c.in_ok-capture.capture) first.0.touches
-    (subst (λ (p : WheelParts). Loads {X = Capture} u u (g.S.Shelf.view c.load_clean.new.shelf) name (CleanGives u.file name p o) (HasCleanCapture u.file name p o) (Ok c.in_ok-capture.capture)) own c.in_ok-capture.ensures.loads) in
+    let second = clean_before v u _ _ name c.in-Ok.watched.wheel.parts (wheel_parts_of b) o (Ok c.in_ok-capture.capture) own first.0.touches c.in_ok-capture.ensures.loads in
     let front = subst (λ (is : List Instant). AppendsPrefix (g.O.Sink.taken c.args.out.now) (g.O.Sink.taken c.put_trace.new.out) (trace_text b is)) c.as_slice.ensures
     (subst (λ b. AppendsPrefix (g.O.Sink.taken c.args.out.now) (g.O.Sink.taken c.put_trace.new.out) (trace_text b c.as_slice.result.now)) same c.in_err-put_trace.ensures.err) in
     rw (p.1, p.2)
@@ -97,8 +90,7 @@ returns g c =
     let same : c.in_ok-view.view.bytes.now ≡ b = c.in_ok-view.ensures.bytes ∙ c.deref.ensures.value in
     let own : c.in-Ok.watched.wheel.parts ≡ wheel_parts_of b = c.in-Ok.ensures.wheel ∙ ap wheel_parts_of same in
     let image = laid v u c.args.image.now b first.1 (subst KeepsLayout c.deref.ensures.value c.in_ok-view.ensures.layout) in
-    let second = loads_before {X = Capture} v u (g.S.Shelf.view c.load_clean.new.shelf) _ name (λ file. CleanGives file name (wheel_parts_of b) o) (λ file. HasCleanCapture file name (wheel_parts_of b) o) (Ok c.in_ok-capture.capture) first.0.touches
-    (subst (λ (p : WheelParts). Loads {X = Capture} u u (g.S.Shelf.view c.load_clean.new.shelf) name (CleanGives u.file name p o) (HasCleanCapture u.file name p o) (Ok c.in_ok-capture.capture)) own c.in_ok-capture.ensures.loads) in
+    let second = clean_before v u _ _ name c.in-Ok.watched.wheel.parts (wheel_parts_of b) o (Ok c.in_ok-capture.capture) own first.0.touches c.in_ok-capture.ensures.loads in
     let whole = subst (λ (is : List Instant). Appends (g.O.Sink.taken c.args.out.now) (g.O.Sink.taken c.put_trace.new.out) (trace_text b is)) c.as_slice.ensures
     (subst (λ b. Appends (g.O.Sink.taken c.args.out.now) (g.O.Sink.taken c.put_trace.new.out) (trace_text b c.as_slice.result.now)) same c.in_ok-put_trace.ensures.ok) in
     goes_on _ _ _ _ _ _ _ _ b _ _ _ _ _ first.0 image
