@@ -2,3 +2,4 @@ pub mod Walking
 pub mod Phases
 pub mod Tables
 pub mod Wheels
+pub mod Zeros
