@@ -1,11 +1,13 @@
 #!/usr/bin/env python3
 """Prints the table of runs with what the independent computations of this folder tell of its rows over images and stimuli.
 
-The audit, the walk, stimuli and images are those of audits.py, images.py, stimulus.py and tables.py. A wheel's file is printed in the
+The audit, the walk, stimuli and images are those of audits.py, images.py, stimulus.py and tables.py, and reports are those of reference.py. A wheel's file is printed in the
 form of a TOML table whose keys ascend. Rows in which a call fails, or many gaps are asked for, and all other rows, are printed as they stand.
 
 usage: bench/runs.py crates/run_rows/stdin | diff crates/run_rows/stdin -
 """
+import contextlib
+import io
 import os
 import re
 import sys
@@ -14,7 +16,7 @@ import tomllib
 
 from audits import told_of_audit
 from images import Fields, told_of_bytes, walked
-from reference import CHANNELS, Wheel, instants_of
+from reference import CHANNELS, Wheel, instants_of, report
 from stimulus import Refused, instants
 from tables import MOST, PLACES, image, size
 
@@ -58,7 +60,7 @@ def told_of_table(words, failing, name, changes, capture):
     command, *rest = words.split()
     b = spoiled(name, changes)
     fault = told_of_bytes(b)
-    if failing or rest[:1] != ["image"]:
+    if failing or rest[:1] != ["image"] or (command == "replay" and b[:4] != b"WSYN"):
         return None
     if fault != "image":
         return " / Refused %s␤" % fault_line(fault)
@@ -70,14 +72,28 @@ def told_of_table(words, failing, name, changes, capture):
         return "sound states %d places %d␤%s / Done" % (fields.states, fields.places, wheel_text(fields.wheel()))
     if command == "trace" and rest == ["image", "capture"] and "x" not in capture:
         return told_of_trace(fields, capture)
+    if command == "replay" and rest == ["image", "capture"] and "x" not in capture:
+        told = told_of_audit(b)
+        return told_of_replay(fields.wheel(), capture) if told.startswith("sound") else " / Refused %s␤" % fault_line(told)
     return None
 
 
-def told_of_trace(fields, capture):
+def moments_of(wheel, capture):
     with tempfile.NamedTemporaryFile("w", suffix=".csv") as file:
         file.write(capture.replace("␤", "\n"))
         file.flush()
-        moments = instants_of(fields.wheel(), file.name, {})
+        return instants_of(wheel, file.name, {})
+
+
+def told_of_replay(wheel, capture):
+    """The report by sets of places, and not by the image's rows."""
+    with contextlib.redirect_stdout(io.StringIO()) as out:
+        report(wheel, moments_of(wheel, capture))
+    return out.getvalue().replace("\n", "␤") + " / Done"
+
+
+def told_of_trace(fields, capture):
+    moments = moments_of(fields.wheel(), capture)
     lines = []
     for index, ((time, edges), (_, state, _, _)) in enumerate(zip(moments, walked(fields, moments)), 1):
         shape = "".join(mark + edges[c] for mark, c in zip("C12", CHANNELS) if c in edges)

@@ -21,7 +21,7 @@ const MOST_STATES: u32 = 65_535;
 /// # Errors
 /// In this order: `Limit::Places` past 16,384 places; `Limit::States` with the limit that holds, where the wheel's family has more
 /// states than that; `Memory`.
-fn image_of(alloc: Global, wheel: &Wheel) -> Result<Vec<u8>, Cause>
+pub fn image_of(alloc: Global, wheel: &Wheel) -> Result<Vec<u8>, Cause>
     ensures image { IfOk result (λ bytes. IsCompiled wheel.now.parts given_limit bytes.items) }
     ensures few { OnOk result (¬ HasTooMany wheel.now.parts) }
     ensures none { IfErr result (HasNoImage wheel.now.parts) }

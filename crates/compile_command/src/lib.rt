@@ -4,5 +4,5 @@
 mod image;
 mod laws;
 
-pub use image::compile_file;
+pub use image::{compile_file, image_of};
 pub use laws::compiles_end;

@@ -20,7 +20,7 @@ use wheel_types::Memory;
 ///
 /// # Errors
 /// `Refusal::Audit` with the first difference between the image and the table of its own wheel; `Memory`.
-fn audited<'a>(alloc: Global, view: View<'a>) -> Result<Sound<'a>, Cause>
+pub fn audit_image<'a>(alloc: Global, view: View<'a>) -> Result<Sound<'a>, Cause>
     ensures sound { OnOk result (IsSoundImage view.entry.bytes.now) }
     ensures view { IfOk result (λ sound. sound.view ≡ view.entry) }
     ensures kinds { IfErr result (StopsJudge (AuditGives view.entry.bytes.now)) }
@@ -84,6 +84,6 @@ pub fn audit_file<S: Shelf, O: Sink>(
 {
     let bytes = load(alloc, shelf, image)?;
     let view = view_of(&bytes)?;
-    let sound = audited(alloc, view)?;
+    let sound = audit_image(alloc, view)?;
     put_text(alloc, sound.view(), out)
 }

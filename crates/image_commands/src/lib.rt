@@ -9,6 +9,7 @@ mod line;
 mod put;
 mod trace;
 
-pub use audit::audit_file;
+pub use audit::{audit_file, audit_image};
+pub use images::{Watched, view_of, watched_wheel};
 pub use laws::{audits_end, traces_end};
 pub use trace::trace_file;

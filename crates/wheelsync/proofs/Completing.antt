@@ -24,7 +24,9 @@ use Rattle.tap_board.specs.Meanings.{Meaning, tails_after}
 use Rattle.run_ends.specs.Serving.{Stream, Served, Ran, NoneFailed, WentOut}
 use Rattle.run_files.specs.Causes.{FileGives, ModelGives, SourceGives, ended_by}
 use Rattle.run_files.specs.Files.{HasPlacedWheel, HasTable}
-use Rattle.wheelsync.specs.Complete.{AreReady, IsDenied, IsDue}
+use Rattle.wheelsync.specs.Complete.{AreAccepted, AreReady, IsDenied, IsDue}
+use Rattle.wheel_types.specs.declared.parts.WheelParts.{WheelParts}
+use Rattle.table_models.proofs.Ending.{model_ends, model_not_usage}
 use Rattle.check_command.specs.Check.{IsCheck}
 use Rattle.check_command.proofs.Answered.{EndsIn, check_ends, check_not_usage, valid_ends, invalid_ends}
 use Rattle.run_files.proofs.Ready.{model_gives_none, file_gives_none, source_gives_none, file_has_one_wheel, file_has_one_table}
@@ -58,19 +60,15 @@ settled_stop (cause.Refused r) s = absurd s
 settled_stop (cause.Limit l) s = absurd s
 
 -- over accepted files and a steady shelf
-replay_settles : (v : View) (tails : List ℕ → List ℕ) (m c : List ℕ) (o : Options) (work : Work) → IsTrue v.tells → IsTrue v.steady → AreReady v.file (Replay m c None o) → IsReplay v tails m c o work → IsSettled work.end
-replay_settles v tails m c o work told steady (w, (k, a)) r =
-    reads_ready v m (ModelGives v.file m) (HasPlacedWheel v.file m) (λ w. IsReplayOver v tails w c o) IsSettled
-    a.files.model_file.wheel.bytes w work told steady a.files.model_file.wheel.holds.there (model_gives_none v.file m w a.files.model_file)
-    (λ u h. file_has_one_wheel v.file m u w h.wheel a.files.model_file.wheel) (inr (inl refl))
-    (λ rest n.
-    opens_end v c (Closes tails (IsReplayPast v w c o)) IsSettled rest opening
+replay_over_settles : (v : View) (tails : List ℕ → List ℕ) (m c : List ℕ) (o : Options) (w : WheelParts) (k : Capture) (work : Work) → IsTrue v.tells → IsTrue v.steady → AreAccepted v.file m c o w k → IsReplayOver v tails w c o work → IsSettled work.end
+replay_over_settles v tails m c o w k work told steady a r =
+    opens_end v c (Closes tails (IsReplayPast v w c o)) IsSettled work opening
     (λ more q.
     closes_end tails (IsReplayPast v w c o) IsSettled more
     (λ last p.
     takes_end v (FileGives v.file c) (HasNamedCapture v.file c w o) (λ d. WritesLines (IsReported w d)) IsSettled last reading
     (λ d h t. lines_end (IsReported w d) IsSettled last (λ all end g. inl (g.1 ∙ ap ended_by (ap (λ (e : Capture). e.end) (file_has_one_capture v.file c w o d k (h told) a.files.capture_file) ∙ a.clean))) settled_stop t) p)
-    (inr (inl refl)) q) n)
+    (inr (inl refl)) q)
     r
   where
     opening : (e : Cause) → StopsOpen v c e → IsSettled (Err e)
@@ -89,10 +87,15 @@ replay_settles v tails m c o work told steady (w, (k, a)) r =
     reading (cause.Limit l) s = absurd (file_gives_none v.file c a.files.capture_file.bytes a.files.capture_file.holds (cause.Limit l) (s told))
     reading cause.WriteFault s = absurd s
 
+replay_settles : (v : View) (tails : List ℕ → List ℕ) (m c : List ℕ) (o : Options) (work : Work) → IsTrue v.tells → IsTrue v.steady → AreReady v.file (Replay m c None o) → IsReplay v tails m c o work → IsSettled work.end
+replay_settles v tails m c o work told steady (w, (k, a)) r =
+    model_ends IsSettled v m w (λ u. IsReplayOver v tails u c o) work told steady a.files.model_file (inr (inl refl))
+    (λ rest n. replay_over_settles v tails m c o w k rest told steady a n) r
+
 replayed_settles : (v : View) (tails : List ℕ → List ℕ) (m c : List ℕ) (f : Option (List ℕ)) (o : Options) (work : Work) → IsTrue v.tells → IsTrue v.steady → AreReady v.file (Replay m c f o) → IsReplayed v tails m c f o work → IsSettled work.end
 replayed_settles v tails m c None o work told steady ready r = replay_settles v tails m c o work told steady ready r
 replayed_settles v tails m c (Some f) o work told steady (w, (k, a)) r =
-    certified_ends IsSettled v tails m c f o w k work told steady a.files.model_file a.files.capture_file (inl (ap ended_by a.clean)) (inr (inl refl)) (inr (inr refl)) r
+    certified_ends IsSettled v tails m c f o w k work told steady a.model_file a.capture_file (inl (ap ended_by a.clean)) (inr (inl refl)) (inr (inr refl)) r
 
 import_settles : (v : View) (source name : List ℕ) (work : Work) → IsTrue v.tells → IsTrue v.steady → AreReady v.file (Import source name) → IsImport v source name work → IsSettled work.end
 import_settles v source name work told steady (slots, h) r =
@@ -195,16 +198,15 @@ not_cause e n is = let same : e ≡ cause.Usage = cc in n same
 
 replay_not_usage : (v : View) (tails : List ℕ → List ℕ) (m c : List ℕ) (o : Options) (work : Work) → IsReplay v tails m c o work → work.end ≡ Err cause.Usage → ⊥
 replay_not_usage v tails m c o work r =
-    reads_end v m (ModelGives v.file m) (HasPlacedWheel v.file m) (λ w. IsReplayOver v tails w c o) (λ end. end ≡ Err cause.Usage → ⊥) work
-    (λ e s. not_cause e (open_not_usage v m e s)) (λ e s. not_cause e (read_not_usage v (ModelGives v.file m) e s))
-    (λ w rest a n.
+    model_not_usage v m (λ w. IsReplayOver v tails w c o) work
+    (λ w rest n.
     opens_end v c (Closes tails (IsReplayPast v w c o)) (λ end. end ≡ Err cause.Usage → ⊥) rest (λ e s. not_cause e (open_not_usage v c e s))
     (λ more q.
     closes_end tails (IsReplayPast v w c o) (λ end. end ≡ Err cause.Usage → ⊥) more
     (λ last p.
     takes_end v (FileGives v.file c) (HasNamedCapture v.file c w o) (λ k. WritesLines (IsReported w k)) (λ end. end ≡ Err cause.Usage → ⊥) last (λ e s. not_cause e (read_not_usage v (FileGives v.file c) e s))
     (λ k b t. lines_end (IsReported w k) (λ end. end ≡ Err cause.Usage → ⊥) last (λ all end d is. ended_not_usage k.end (sym d.1 ∙ is)) (λ e s. not_cause e (write_not_usage e s)) t) p)
-    (λ is. cc) q) n)
+    (λ is. cc) q))
     r
 
 replayed_not_usage : (v : View) (tails : List ℕ → List ℕ) (m c : List ℕ) (f : Option (List ℕ)) (o : Options) (work : Work) → IsReplayed v tails m c f o work → work.end ≡ Err cause.Usage → ⊥

@@ -13,12 +13,16 @@ use Rattle.run_ends.specs.declared.cause.Done.{Done}
 use Rattle.run_ends.specs.declared.cause.Done.TheVariants as done
 use Rattle.run_ends.specs.declared.cause.Cause.{Cause}
 use Rattle.run_ends.specs.declared.cause.Cause.TheVariants as cause
-use Rattle.run_ends.specs.Works.{Work, Told, Writes, StopsOpen, StopsRead, StopsWrite}
-use Rattle.run_ends.proofs.Outcomes.{reads_out, writes_out, hands_out, opens_out, closes_out, takes_out, lines_out}
+use Rattle.run_ends.specs.Works.{Work, Told, Judges, Writes, StopsOpen, StopsRead, StopsJudge, StopsWrite}
+use Rattle.run_ends.proofs.Outcomes.{reads_out, judges_out, writes_out, hands_out, opens_out, closes_out, takes_out, lines_out}
 use Rattle.run_ends.specs.Lines.{MarkedLine, WritesLines, text_of}
 use Rattle.run_ends.specs.Stages.{Closes}
-use Rattle.run_files.specs.Causes.{FileGives, ModelGives, SourceGives, ended_by}
-use Rattle.run_files.specs.Files.{HasPlacedWheel, HasTable}
+use Rattle.run_files.specs.Causes.{FileGives, SourceGives, ended_by}
+use Rattle.run_files.specs.Files.{HasTable}
+use Rattle.image_layout.specs.Fields.{wheel_parts_of}
+use Rattle.table_images.specs.Images.{IsSoundImage}
+use Rattle.table_models.specs.Models.{HasModelImage, HasModel, IsNoModel, TableGives, NotSoundGives}
+use Rattle.table_models.proofs.Ready.{has_model}
 use Rattle.named_captures.specs.Captures.{HasNamedCapture}
 use Rattle.wheelsync.specs.Complete.{AreRead}
 use Rattle.wheelsync.specs.Headline.{IsReport}
@@ -43,15 +47,23 @@ model_not_opened v m f o (cause.Refused r) s = absurd s
 model_not_opened v m f o (cause.Limit l) s = absurd s
 model_not_opened v m f o cause.WriteFault s = absurd s
 
-model_not_read : (v : View) (m f : List ℕ) (o : Options) (e : Cause) → StopsRead v (ModelGives v.file m) e → ReplayEnds v m f o (Err e) []
+model_not_read : (v : View) (m f : List ℕ) (o : Options) (e : Cause) → StopsRead v (TableGives v.file m) e → ReplayEnds v m f o (Err e) []
 model_not_read v m f o cause.ReadFault s = (refl, λ told steady. absurd (s steady))
 model_not_read v m f o cause.Memory s = λ told. inl refl
 model_not_read v m f o cause.Usage s = absurd s
-model_not_read v m f o (cause.Refused r) s = λ told. inl (refl, s told)
-model_not_read v m f o (cause.Limit l) s = (refl, λ told. inl (s told))
+model_not_read v m f o (cause.Refused r) s = λ told. inl (refl, inl (s told))
+model_not_read v m f o (cause.Limit l) s = (refl, λ told. inl (inl (s told)))
 model_not_read v m f o cause.WriteFault s = absurd s
 
-capture_not_opened : (v : View) (m f : List ℕ) (o : Options) (w : WheelParts) (e : Cause) → Told v (HasPlacedWheel v.file m w) → StopsOpen v f e → ReplayEnds v m f o (Err e) []
+model_not_sound : (v : View) (m f : List ℕ) (o : Options) (image : List ℕ) (e : Cause) → Told v (HasModelImage v.file m image) → StopsJudge (NotSoundGives image) e → ReplayEnds v m f o (Err e) []
+model_not_sound v m f o image cause.ReadFault a s = absurd s
+model_not_sound v m f o image cause.Memory a s = λ told. inl refl
+model_not_sound v m f o image cause.Usage a s = absurd s
+model_not_sound v m f o image (cause.Refused r) a s = λ told. inl (refl, inr (image, (a told, s)))
+model_not_sound v m f o image (cause.Limit l) a s = (refl, λ told. inl (inr (image, (a told, s))))
+model_not_sound v m f o image cause.WriteFault a s = absurd s
+
+capture_not_opened : (v : View) (m f : List ℕ) (o : Options) (w : WheelParts) (e : Cause) → Told v (HasModel v.file m w) → StopsOpen v f e → ReplayEnds v m f o (Err e) []
 capture_not_opened v m f o w cause.ReadFault a s = (refl, λ told steady. inr (w, (a told, s told steady)))
 capture_not_opened v m f o w cause.Memory a s = λ told. inl refl
 capture_not_opened v m f o w cause.Usage a s = absurd s
@@ -59,7 +71,7 @@ capture_not_opened v m f o w (cause.Refused r) a s = absurd s
 capture_not_opened v m f o w (cause.Limit l) a s = absurd s
 capture_not_opened v m f o w cause.WriteFault a s = absurd s
 
-capture_not_read : (v : View) (m f : List ℕ) (o : Options) (w : WheelParts) (e : Cause) → Told v (HasPlacedWheel v.file m w) → StopsRead v (FileGives v.file f) e → ReplayEnds v m f o (Err e) []
+capture_not_read : (v : View) (m f : List ℕ) (o : Options) (w : WheelParts) (e : Cause) → Told v (HasModel v.file m w) → StopsRead v (FileGives v.file f) e → ReplayEnds v m f o (Err e) []
 capture_not_read v m f o w cause.ReadFault a s = (refl, λ told steady. absurd (s steady))
 capture_not_read v m f o w cause.Memory a s = λ told. inl refl
 capture_not_read v m f o w cause.Usage a s = absurd s
@@ -112,7 +124,7 @@ got_front : (v : View) (m f : List ℕ) (o : Options) (end : Result Done Cause) 
 got_front v m f o (Ok x) out h = λ told. front_of v.file m f o (Ok done.Whole) out (h.1 told)
 got_front v m f o (Err (cause.Refused r)) out h = λ told. by (h told)
   where
-    by : ((out ≡ []) × ModelGives v.file m (cause.Refused r)) ⊎ GotReport v.file m f o (Err (cause.Refused r)) out → GotFront v.file m f o out
+    by : ((out ≡ []) × IsNoModel v.file m (cause.Refused r)) ⊎ GotReport v.file m f o (Err (cause.Refused r)) out → GotFront v.file m f o out
     by (inl (is, g)) = inl is
     by (inr g) = front_of v.file m f o (Err (cause.Refused r)) out g
 got_front v m f o (Err (cause.Limit l)) out h = λ told. inl h.0
@@ -121,12 +133,9 @@ got_front v m f o (Err cause.WriteFault) out h = h
 got_front v m f o (Err cause.Memory) out h = h
 got_front v m f o (Err cause.Usage) out h = absurd h
 
-replay_ends : (v : View) (tails : List ℕ → List ℕ) (m f : List ℕ) (o : Options) (work : Work) → IsReplay v tails m f o work → ReplayEnds v m f o work.end work.out
-replay_ends v tails m f o work r =
-    reads_out v m (ModelGives v.file m) (HasPlacedWheel v.file m) (λ w. IsReplayOver v tails w f o) (ReplayEnds v m f o) work
-    (model_not_opened v m f o) (model_not_read v m f o)
-    (λ w rest a n.
-    opens_out v f (Closes tails (IsReplayPast v w f o)) (ReplayEnds v m f o) rest (λ e s. capture_not_opened v m f o w e a s)
+replay_over_ends : (v : View) (tails : List ℕ → List ℕ) (m f : List ℕ) (o : Options) (w : WheelParts) (work : Work) → Told v (HasModel v.file m w) → IsReplayOver v tails w f o work → ReplayEnds v m f o work.end work.out
+replay_over_ends v tails m f o w work a r =
+    opens_out v f (Closes tails (IsReplayPast v w f o)) (ReplayEnds v m f o) work (λ e s. capture_not_opened v m f o w e a s)
     (λ more q.
     closes_out tails (IsReplayPast v w f o) (ReplayEnds v m f o) more
     (λ last p.
@@ -135,7 +144,16 @@ replay_ends v tails m f o work r =
     lines_out (IsReported w c) (ReplayEnds v m f o) last
     (λ all end d. subst (λ end. ReplayEnds v m f o end (text_of all)) (sym d.1) (report_written v m f o w c c.end (text_of all) (λ told. record { model_file = a told; capture_file = b told }) refl d.0.report))
     (λ e before cut rest end k d s. report_cut v m f o w c e before rest cut k (λ told. record { model_file = a told; capture_file = b told }) d.0 s) t) p)
-    (λ end out h. got_front v m f o end out h) q) n)
+    (λ end out h. got_front v m f o end out h) q)
+    r
+
+replay_ends : (v : View) (tails : List ℕ → List ℕ) (m f : List ℕ) (o : Options) (work : Work) → IsReplay v tails m f o work → ReplayEnds v m f o work.end work.out
+replay_ends v tails m f o work r =
+    reads_out v m (TableGives v.file m) (HasModelImage v.file m) (λ image. Judges (NotSoundGives image) (IsSoundImage image) (IsReplayOver v tails (wheel_parts_of image) f o)) (ReplayEnds v m f o) work
+    (model_not_opened v m f o) (model_not_read v m f o)
+    (λ image rest h n.
+    judges_out (NotSoundGives image) (IsSoundImage image) (IsReplayOver v tails (wheel_parts_of image) f o) (ReplayEnds v m f o) rest (λ e s. model_not_sound v m f o image e h s)
+    (λ sound k. replay_over_ends v tails m f o (wheel_parts_of image) rest (λ told. has_model v.file m image (h told) sound) k) n)
     r
 
 pub replays_end : ReplaysEnd

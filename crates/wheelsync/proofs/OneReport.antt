@@ -10,7 +10,7 @@ use Rattle.capture_core.specs.declared.capture.Capture.{Capture}
 use Rattle.named_captures.specs.Captures.{IsCapture}
 use Rattle.wheelsync.specs.Headline.{IsReport}
 use Rattle.wheelsync.specs.Laws.{OneReport}
-use Rattle.wheel_pattern.proofs.OneMeaning.{one_wheel}
+use Rattle.table_models.proofs.Ready.{one_model, model_is_wheel}
 use Rattle.named_captures.proofs.FileNames.{one_capture}
 use Rattle.wheelsync.proofs.Sayings.{are_verdicts}
 
@@ -24,8 +24,8 @@ one_text w is text other some r q =
 
 pub one_report : OneReport
 one_report model bytes o w v c d text other file file_too a b r q =
-    let wheel : v ≡ w = one_wheel model v w file_too file in
+    let wheel : v ≡ w = one_model model v w file_too file in
     let here : IsCapture w o bytes d = subst (λ u. IsCapture u o bytes d) wheel b in
     let capture : d ≡ c = one_capture w o bytes d c here a in
     let report : IsReport w d.instants other = subst (λ u. IsReport u d.instants other) wheel q in
-    one_text w c.instants text other file.wheel.crank_edge r (subst (λ (k : Capture). IsReport w k.instants other) capture report)
+    one_text w c.instants text other (model_is_wheel model w file).crank_edge r (subst (λ (k : Capture). IsReport w k.instants other) capture report)

@@ -1,5 +1,5 @@
 -- When a run has nothing to refuse.
-use Rattle.std.specs.Prelude.{◌≡◌, ◌⊎◌, List, ℕ}
+use Rattle.std.specs.Prelude.{◌≡◌, ◌⊎◌, List, ℕ, None, Some}
 use Rattle.std.specs.declared.option.Option.{Option}
 use Rattle.wheel_types.specs.declared.parts.WheelParts.{WheelParts}
 use Rattle.capture_core.specs.declared.capture.Capture.{Capture}
@@ -8,6 +8,7 @@ use Rattle.command_words.specs.Options.{Options}
 use Rattle.run_files.specs.Files.{HasWheel, HasPlacedWheel, HasTable}
 use Rattle.named_captures.specs.Captures.{HasNamedCapture}
 use Rattle.table_commands.specs.States.{HasFewStates}
+use Rattle.table_models.specs.Models.{HasModel}
 use Rattle.command_words.specs.Words.{Order, Replay, Import, Size, Compile, Check, Audit, Trace, Stim, SelfTest}
 use Rattle.table_images.specs.Images.{IsSoundImage}
 use Rattle.image_commands.specs.Images.{HasImage}
@@ -20,14 +21,20 @@ use Rattle.check_command.specs.Checked.{AreChecked}
 use Rattle.run_ends.specs.declared.status.Status.{Status}
 use Rattle.run_ends.specs.declared.status.Status.TheVariants as status
 
--- the model's file is one of this placed wheel, and the other has this capture over it, however it ends
+-- the model's file is one of this wheel, and the other has this capture over it, however it ends
 pub record AreRead (file : List ℕ → Option (List ℕ)) (model capture_name : List ℕ) (o : Options) (w : WheelParts) (capture : Capture) : Type 0 where
-  pub model_file : HasPlacedWheel file model w
+  pub model_file : HasModel file model w
   pub capture_file : HasNamedCapture file capture_name w o capture
 
 -- both files are accepted, with this wheel and this capture: it ends clean
 pub record AreAccepted (file : List ℕ → Option (List ℕ)) (model capture_name : List ℕ) (o : Options) (w : WheelParts) (capture : Capture) : Type 0 where
   pub files : AreRead file model capture_name o w capture
+  pub clean : capture.end ≡ Clean
+
+-- the same where a certificate is written, over a wheel file
+pub record AreCertifiable (file : List ℕ → Option (List ℕ)) (model capture_name : List ℕ) (o : Options) (w : WheelParts) (capture : Capture) : Type 0 where
+  pub model_file : HasPlacedWheel file model w
+  pub capture_file : HasNamedCapture file capture_name w o capture
   pub clean : capture.end ≡ Clean
 
 -- the wheel's file is there, and its places and its family are within their limits
@@ -38,7 +45,8 @@ pub record IsCounted (file : List ℕ → Option (List ℕ)) (wheel : List ℕ) 
 -- the files are there, short enough and accepted: a certificate that is to be checked is valid, an image that is to be audited holds the
 -- table of its own wheel, and a wheel that is to have a stimulus has one
 abbrev pub AreReady : (List ℕ → Option (List ℕ)) → Order → Type 0
-AreReady file (Replay model capture_name cert o) = (w : WheelParts) × ((capture : Capture) × AreAccepted file model capture_name o w capture)
+AreReady file (Replay model capture_name None o) = (w : WheelParts) × ((capture : Capture) × AreAccepted file model capture_name o w capture)
+AreReady file (Replay model capture_name (Some cert) o) = (w : WheelParts) × ((capture : Capture) × AreCertifiable file model capture_name o w capture)
 AreReady file (Import source name) = (slots : List ℕ) × HasTable file source name slots
 AreReady file (Size wheel) = (w : WheelParts) × IsCounted file wheel w
 AreReady file (Compile wheel image) = (w : WheelParts) × IsCounted file wheel w

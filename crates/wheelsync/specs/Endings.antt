@@ -11,8 +11,9 @@ use Rattle.run_ends.specs.declared.cause.Done.TheVariants as done
 use Rattle.run_ends.specs.declared.cause.Cause.{Cause}
 use Rattle.run_ends.specs.declared.cause.Cause.TheVariants as cause
 use Rattle.run_ends.specs.Works.{Work, Told, HandsOn}
-use Rattle.run_files.specs.Causes.{FileGives, ModelGives, SourceGives, ended_by}
-use Rattle.run_files.specs.Files.{HasPlacedWheel, HasTable}
+use Rattle.run_files.specs.Causes.{FileGives, SourceGives, ended_by}
+use Rattle.run_files.specs.Files.{HasTable}
+use Rattle.table_models.specs.Models.{HasModel, IsNoModel}
 use Rattle.wheelsync.specs.Complete.{AreRead}
 use Rattle.wheelsync.specs.Headline.{IsReport}
 use Rattle.wheelsync.specs.Replay.{IsReplay}
@@ -20,7 +21,7 @@ use Rattle.wheelsync.specs.Import.{IsImport}
 
 -- a named file of a replay is not there: the model, or, that being accepted, the capture
 abbrev pub IsMissing : (List ℕ → Option (List ℕ)) → (model capture : List ℕ) → Type 0
-IsMissing file model capture = (file model ≡ None) ⊎ ((w : WheelParts) × (HasPlacedWheel file model w × (file capture ≡ None)))
+IsMissing file model capture = (file model ≡ None) ⊎ ((w : WheelParts) × (HasModel file model w × (file capture ≡ None)))
 
 -- out got the report of a capture that was read, which gives this end
 abbrev pub GotReport : (List ℕ → Option (List ℕ)) → (model capture : List ℕ) → Options → (end : Result Done Cause) → (out : List ℕ) → Type 0
@@ -35,9 +36,9 @@ GotFront file model capture o out =
 abbrev pub ReplayEnds : View → (model capture : List ℕ) → Options → Result Done Cause → (out : List ℕ) → Type 0
 ReplayEnds v model capture o (Ok x) out = (x ≡ done.Whole) × Told v (GotReport v.file model capture o (Ok done.Whole) out)
 ReplayEnds v model capture o (Err (cause.Refused r)) out =
-    Told v (((out ≡ []) × ModelGives v.file model (cause.Refused r)) ⊎ GotReport v.file model capture o (Err (cause.Refused r)) out)
+    Told v (((out ≡ []) × IsNoModel v.file model (cause.Refused r)) ⊎ GotReport v.file model capture o (Err (cause.Refused r)) out)
 ReplayEnds v model capture o (Err (cause.Limit l)) out =
-    (out ≡ []) × Told v (ModelGives v.file model (cause.Limit l) ⊎ ((w : WheelParts) × (HasPlacedWheel v.file model w × FileGives v.file capture (cause.Limit l))))
+    (out ≡ []) × Told v (IsNoModel v.file model (cause.Limit l) ⊎ ((w : WheelParts) × (HasModel v.file model w × FileGives v.file capture (cause.Limit l))))
 ReplayEnds v model capture o (Err cause.ReadFault) out = (out ≡ []) × Told v (IsTrue v.steady → IsMissing v.file model capture)
 ReplayEnds v model capture o (Err cause.WriteFault) out = Told v (GotFront v.file model capture o out)
 ReplayEnds v model capture o (Err cause.Memory) out = Told v (GotFront v.file model capture o out)

@@ -3,7 +3,7 @@ use Rattle.std.specs.Prelude.{◌≡◌, ℕ, List}
 use Rattle.wheel_types.specs.declared.parts.WheelParts.{WheelParts}
 use Rattle.wheel_types.specs.declared.instant.Instant.{Instant}
 use Rattle.capture_core.specs.declared.capture.Capture.{Capture}
-use Rattle.wheel_pattern.specs.WheelFile.{MeansWheel}
+use Rattle.table_models.specs.Models.{MeansModel}
 use Rattle.named_captures.specs.Captures.{IsCapture}
 use Rattle.command_words.specs.Options.{Options}
 use Rattle.run_ends.specs.Stages.{Fellows, lines_text}
@@ -12,7 +12,7 @@ use Rattle.wheelsync.specs.Headline.{IsReport}
 
 -- two reports of a model's and a capture's bytes, with the same options, are one, however the capture ends
 abbrev pub OneReport : Type 0
-OneReport = (model bytes : List ℕ) (o : Options) (w v : WheelParts) (c d : Capture) (text other : List ℕ) → MeansWheel model w → MeansWheel model v
+OneReport = (model bytes : List ℕ) (o : Options) (w v : WheelParts) (c d : Capture) (text other : List ℕ) → MeansModel model w → MeansModel model v
     → IsCapture w o bytes c → IsCapture v o bytes d → IsReport w c.instants text → IsReport v d.instants other → text ≡ other
 
 -- the lines that come on out while a certificate is written beside them are the report of the instants

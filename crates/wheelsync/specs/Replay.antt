@@ -7,11 +7,11 @@ use Rattle.capture_core.specs.declared.capture.Capture.{Capture}
 use Rattle.command_words.specs.Options.{Options}
 use Rattle.run_ends.specs.declared.cause.Done.{Done}
 use Rattle.run_ends.specs.declared.cause.Cause.{Cause}
-use Rattle.run_ends.specs.Works.{Work, Reads}
+use Rattle.run_ends.specs.Works.{Work}
 use Rattle.run_ends.specs.Lines.{MarkedLine, WritesLines}
 use Rattle.run_ends.specs.Stages.{Opens, Closes, Takes}
-use Rattle.run_files.specs.Causes.{FileGives, ModelGives, ended_by}
-use Rattle.run_files.specs.Files.{HasPlacedWheel}
+use Rattle.run_files.specs.Causes.{FileGives, ended_by}
+use Rattle.table_models.specs.Models.{ReadsModel}
 use Rattle.named_captures.specs.Captures.{HasNamedCapture}
 use Rattle.certified_replay.specs.Certified.{IsCertified}
 use Rattle.wheelsync.specs.Reported.{AreReported}
@@ -28,10 +28,9 @@ IsReplayPast v w capture o = Takes v (FileGives v.file capture) (HasNamedCapture
 abbrev pub IsReplayOver : View → (tails : List ℕ → List ℕ) → WheelParts → (capture : List ℕ) → Options → Work → Type 0
 IsReplayOver v tails w capture o = Opens v capture (Closes tails (IsReplayPast v w capture o))
 
--- The model is read, and is a wheel with few enough places; then it is replayed over it.
+-- The model is read, and is a sound image or the file of a wheel that has one; then the capture is replayed over its wheel.
 abbrev pub IsReplay : View → (tails : List ℕ → List ℕ) → (model capture : List ℕ) → Options → Work → Type 0
-IsReplay v tails model capture o =
-    Reads v model (ModelGives v.file model) (HasPlacedWheel v.file model) (λ w. IsReplayOver v tails w capture o)
+IsReplay v tails model capture o = ReadsModel v model (λ w. IsReplayOver v tails w capture o)
 
 -- a replay, with a certificate where a file is to get one
 abbrev pub IsReplayed : View → (tails : List ℕ → List ℕ) → (model capture : List ℕ) → (cert : Option (List ℕ)) → Options → Work → Type 0

@@ -5,7 +5,7 @@ use Rattle.wheelsync.proofs.put.put_report.Given as goal
 
 abbrev pub invariant-loop-number : goal.invariant-loop-number
 invariant-loop-number g l = record {
-  put : HasPut l.fn.set l.set (g.O.Sink.taken l.fn.out) (g.O.Sink.taken l.out)
+  put : HasPut l.fn.session l.session (g.O.Sink.taken l.fn.out) (g.O.Sink.taken l.out)
       (map (λ b. (goal.Tap-dyn g (b.vtable, b.value)).meaning b.value) l.fn.board.taps.items)
       (map (λ b. (goal.Tap-dyn g (b.vtable, b.value)).meaning b.value) l.board.taps.items) l.instants l.number;
   steady : IsTrue (g.O.Sink.steady l.fn.out) → IsTrue (g.O.Sink.steady l.out);
