@@ -1,6 +1,6 @@
 -- A model's file gives one wheel, and an accepted one no cause to end.
 use Rattle.std.proofs.Common.{◌≡◌, ℕ, inl, inr, List, Option, None, Some, refl, sym, ◌∙◌, ap, subst}
-use Rattle.std.specs.Prelude.{is_none}
+use Rattle.std.specs.Prelude.{is_some}
 use Rattle.wheel_types.specs.declared.parts.WheelParts.{WheelParts}
 use Rattle.wheel_types.specs.Wheels.{IsWheel}
 use Rattle.wheel_pattern.specs.WheelFile.{MeansWheel}
@@ -67,7 +67,7 @@ one_model bytes v w (inr (f, few)) (inl (begins, m)) = absurd (f.other begins)
 one_model bytes v w (inr (f, few)) (inr (g, too)) = one_wheel bytes v w f.means g.means
 
 pub model_is_wheel : (bytes : List ℕ) (w : WheelParts) → MeansModel bytes w → IsWheel w
-model_is_wheel bytes w (inl (begins, (sound, is))) = subst IsWheel is (is_wheel bytes (ap is_none (layout_from bytes sound.layout)))
+model_is_wheel bytes w (inl (begins, (sound, is))) = subst IsWheel is (is_wheel bytes (ap is_some (layout_from bytes sound.layout)))
 model_is_wheel bytes w (inr (f, few)) = f.means.wheel
 
 pub file_has_one_model : (file : List ℕ → Option (List ℕ)) (name : List ℕ) (v w : WheelParts) → HasModel file name v → HasModel file name w → v ≡ w
