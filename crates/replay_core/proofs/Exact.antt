@@ -116,9 +116,10 @@ module _ (b : List ℕ) (image : IsImage b) where
       let since : List Instant = i ∷ window_after b past in
       let next : List Instant = window_after b (i ∷ past) in
       let v : Verdict = verdict_at b past i in
-      let there : AreMembersBy (stand_after b (i ∷ past)).started b (stand_after b (i ∷ past)).state c.cover =
+      let here : Stand = stand_after b (i ∷ past) in
+      let there : AreMembersBy here.started b here.state c.cover =
       subst (λ (t : Stand). AreMembersBy t.started b t.state c.cover) stand are in
-      let cover = ends_by b (stand_after b (i ∷ past)).state next (stand_after b (i ∷ past)).started c.cover stands.holds stands.started there in
+      let cover = ends_by b here.state next here.started c.cover stands.holds stands.started there in
       let whole : (line_at b past i).verdict ≡ v = same_verdict b image since v right.verdict in
       let same : c.kind ≡ kind_for w (counts_of next) (Some v) c.cover =
       named ∙ ap (λ k. kind_for w k said c.cover) counted ∙ ap (λ o. kind_for w (counts_of next) o c.cover) (told ∙ ap Some whole) in
