@@ -39,7 +39,7 @@ counted_back (i ∷ since) ix =
     counted_back since (record { crank = edge_if i.crank ix.crank; cam1 = edge_if i.cam1 ix.cam1; cam2 = edge_if i.cam2 ix.cam2 })
     ∙ same_indices _ _ _ _ _ _ (one_back i.crank ix.crank c.crank) (one_back i.cam1 ix.cam1 c.cam1) (one_back i.cam2 ix.cam2 c.cam2)
 
-start_back : (w : WheelParts) (since : List Instant) (p : Place) → place_back w (counts_of since) p ≡ cut_place (start_of w since p)
+pub start_back : (w : WheelParts) (since : List Instant) (p : Place) → place_back w (counts_of since) p ≡ cut_place (start_of w since p)
 start_back w since p = ap (λ ix. cut_place (place_of w ix)) (sym (counted_back since (indices_of p)))
 
 pub same_open : (a b c d : Place) → a ≡ c → b ≡ d → ◌≡◌ {A = Verdict} (verdict.Open a b) (verdict.Open c d)

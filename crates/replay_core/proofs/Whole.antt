@@ -36,18 +36,18 @@ module _ (b : List ℕ) (image : IsImage b) where
   w : WheelParts
   w = wheel_parts_of b
 
-  some_crank : 0 < edge_count (wheel_parts_of b) Crank
+  pub some_crank : 0 < edge_count (wheel_parts_of b) Crank
   some_crank = let edge = (is_wheel b image).crank_edge in omega (arith, edge)
 
   -- a place from which motions lead is in range
-  same_start : (since : List Instant) (a e : Place) → Leads (wheel_parts_of b) since a e → cut_place a ≡ a
+  pub same_start : (since : List Instant) (a e : Place) → Leads (wheel_parts_of b) since a e → cut_place a ≡ a
   same_start since a e leads =
       let start = start_determined (wheel_parts_of b) since a e some_crank leads in
       let small : IsPlace (crank_total b) a =
       subst (IsPlace (crank_total b)) (sym start) (starts_are_small b since e image (a, leads)) in
       same_place _ _ _ _ _ _ refl (same_number a.n1 small.1) (same_number a.n2 small.2)
 
-  same_verdict : (since : List Instant) (v : Verdict) → IsVerdict (wheel_parts_of b) since v → cut_verdict v ≡ v
+  pub same_verdict : (since : List Instant) (v : Verdict) → IsVerdict (wheel_parts_of b) since v → cut_verdict v ≡ v
   same_verdict since Lost is = refl
   same_verdict since (At j slot) is = refl
   same_verdict since (Open x y) is = same_open _ _ _ _ (same_start since x is.0 is.4) (same_start since y is.1 is.5)

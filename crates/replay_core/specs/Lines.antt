@@ -1,5 +1,5 @@
 -- The report of an image's walk. Lists of instants have the last one first.
-use Rattle.std.specs.Prelude.{ℕ, List, ◌∷◌, length}
+use Rattle.std.specs.Prelude.{ℕ, List, [], ◌∷◌, length, Option, Some, None}
 use Rattle.wheel_types.specs.declared.instant.Instant.{Instant}
 use Rattle.wheel_types.specs.declared.verdict.Report.{Report}
 use Rattle.wheel_types.specs.declared.verdict.Verdict.{Verdict}
@@ -22,3 +22,8 @@ line_at b past i = record {
   shape = shape_number i.crank i.cam1 i.cam2;
   verdict = cut_verdict (verdict_at b past i);
 }
+
+-- the verdict of the last instant's line, where there is one
+abbrev pub last_verdict : List ℕ → List Instant → Option Verdict
+last_verdict b [] = None
+last_verdict b (i ∷ past) = Some ((line_at b past i).verdict)

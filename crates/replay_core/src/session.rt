@@ -1,5 +1,5 @@
 //! A session over an image.
-ghost use Rattle.std.specs.Prelude.{◌≡◌, ◌<◌, ◌≤◌, ◌+◌, ◌-◌, ◌^◌, ◌∷◌, [], List, None, Some, IsTrue, reverse};
+ghost use Rattle.std.specs.Prelude.{◌≡◌, ◌<◌, ◌≤◌, ◌+◌, ◌-◌, ◌^◌, ◌∷◌, [], List, None, Some, IfOk, IsTrue, reverse};
 ghost use Rattle.wheel_types.specs.declared.instant.Instant.{Instant as Declared};
 ghost use Rattle.wheel_types.specs.Verdicts.{IsRising, IsVerdict};
 ghost use Rattle.image_layout.specs.Fields.{wheel_parts_of};
@@ -10,14 +10,20 @@ ghost use Rattle.sound_walk.specs.Laws.{IsKnownSound};
 ghost use Rattle.sound_walk.specs.Windows.{window_after};
 ghost use Rattle.replay_core.specs.Counts.{AreEdgesIn, AreAtMost};
 ghost use Rattle.replay_core.specs.Told.{IsIn, told_verdict, next_counts};
+ghost use Rattle.replay_core.specs.Covers.{IsExactAt};
+ghost use Rattle.pair_certificate.specs.Reports.{IsCertLineInRange};
 
 use crate::counts::EdgeCounts;
+use crate::cover::{ends, kind_of};
 use crate::starts::CycleEdges;
+use image_audit::Sound;
 use image_format::View;
+use pair_certificate::CertLine;
+use std::alloc::Global;
 use std::marker::Brand;
 use std::sync::ledger::{Blank, Ledger};
 use sync_machine::{Machine, MachineVerdict, Steps};
-use wheel_types::{Instant, Report, Verdict};
+use wheel_types::{Instant, Memory, Report, Verdict};
 
 /// Makes the report of instants by the walk of an image's rows. It keeps no list of them.
 #[derive(Drop)]
@@ -29,6 +35,8 @@ pub struct Session<'a> {
     passed: EdgeCounts,
     /// How many instants were stepped.
     stepped: u64,
+    /// The last instant's verdict.
+    said: Option<Verdict>,
     pub ghost edges: { AreEdgesIn (wheel_parts_of machine.view.bytes.now) cycle },
     pub ghost some: { 0 < cycle.crank },
     pub ghost few: { AreAtMost stepped passed },
@@ -106,6 +114,7 @@ impl<'a> Session<'a> {
             cycle,
             passed: EdgeCounts::none(),
             stepped: 0,
+            said: None,
         }
     }
 
@@ -142,11 +151,31 @@ impl<'a> Session<'a> {
         let verdict = verdict(self.machine.view(), self.cycle, told, seen);
         self.passed = next_counts(self.machine.started(), told, instant, seen);
         self.stepped += 1;
+        self.said = Some(verdict);
         Report {
             index: self.stepped,
             time: instant.time,
             shape: instant.shape(),
             verdict,
         }
+    }
+    /// The exact certificate's line of the last instant. It asks a model of the session's own bytes, and that an instant was stepped.
+    ///
+    /// # Errors
+    /// Want of memory.
+    pub fn cover(&self, alloc: Global, model: &Sound<'_>) -> Result<CertLine, Memory>
+        requires model { model.now.view.bytes.now ≡ image_of self.now }
+        requires stepped { 1 ≤ stepped_of self.now }
+        ensures exact { IfOk result (λ line. (past : List Declared) (i : Declared) → StandsFor self.now (i ∷ past)
+            → IsRising (reverse (i ∷ past)) → IsExactAt (image_of self.now) past i line) }
+        ensures range { IfOk result IsCertLineInRange }
+    {
+        let started = self.machine.started();
+        let cover = ends(alloc, model.view(), self.machine.state(), started)?;
+        Ok(CertLine {
+            index: self.stepped(),
+            kind: kind_of(self.cycle, self.passed, self.said, cover.as_slice()),
+            cover,
+        })
     }
 }

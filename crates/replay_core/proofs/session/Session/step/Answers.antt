@@ -1,6 +1,6 @@
 use Rattle.std.proofs.Common.{◌≡◌, ℕ, ◌+◌, List, ◌∷◌, length, ℤ, sym, subst, ◌∙◌, ap, arith}
 use Rattle.std.proofs.lemmas.Int.{ints}
-use Rattle.std.specs.Prelude.{Bool}
+use Rattle.std.specs.Prelude.{Bool, Some}
 use mir.Syntax.{w128}
 use mir.Val.{to_z, of_z}
 use Rattle.wheel_types.specs.declared.instant.Instant.{Instant as Declared}
@@ -78,6 +78,7 @@ returns-clause-stands c = λ past stands.
           c.walked-told.ensures.stand;
       passed = passed ∙ ap (λ b. counts_of (window_after b (i ∷ past))) (sym c.walked-told.ensures.view);
       number = one_more c.args.self.now.stepped i past stands.number;
+      said = ap Some (line c past stands ∙ ap (λ b. cut_verdict (verdict_at b past i)) (sym c.walked-told.ensures.view));
     }
 
 pub returns-clause-sound : goal.returns-clause-sound
