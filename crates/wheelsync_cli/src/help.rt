@@ -5,7 +5,7 @@
 
 const OVERVIEW: &[u8] = b"wheelsync: what crank and cam edges prove about an engine's position
 
-    wheelsync replay WHEEL CAPTURE [--cert FILE] [NAMES]
+    wheelsync replay MODEL CAPTURE [--cert FILE] [NAMES]
         replay a capture of edges over a wheel
     wheelsync import SOURCE NAME
         print the slots of a C source's table
@@ -29,7 +29,8 @@ const OVERVIEW: &[u8] = b"wheelsync: what crank and cam edges prove about an eng
     wheelsync --version         the version
 
 WHEEL is a TOML file: degrees and slots, or teeth and missing, with rpm_low,
-rpm_high, ratio, and where wanted kept polarities and the cams' phasing.
+rpm_high, ratio, and where wanted kept polarities and the cams' phasing. MODEL
+is a WHEEL, or an image that compile made.
 
 CAPTURE has one of two forms, told by its first byte. A CSV file has a header,
 and rows of a time in seconds and levels, 0 or 1: the times in the first column,
@@ -51,8 +52,11 @@ verdict and every line on standard error, docs/FORMATS.md has the formats whole.
 examples/wheels are wheels.
 ";
 
-const REPLAY: &[u8] = b"wheelsync replay WHEEL CAPTURE [--cert FILE] [NAMES]
+const REPLAY: &[u8] = b"wheelsync replay MODEL CAPTURE [--cert FILE] [NAMES]
     replay a capture of edges over a wheel
+
+MODEL is a WHEEL, or an image that compile made. The wheel's table is made, or
+the image audited, before the capture is opened; then the table is walked.
 
 For each instant one line comes on standard output:
 
@@ -67,7 +71,7 @@ first instant.
 
 FILE gets the certificate of the report, a line after each line of the report:
 check tests it without any search. It is made, or written over, once the capture
-is opened.
+is opened. MODEL is a WHEEL then.
 
 NAMES are --time NAME, --crank NAME, --cam1 NAME, --cam2 NAME, for columns and
 signals.
@@ -87,10 +91,10 @@ Example:
     tally at 2 open 2 lost 0
     first at 3
 
-Statuses: 0 done; 1 the wheel or the capture is refused, after the lines of the
-instants before its fault; 2 usage; 3 a read failed; 4 a write failed; 5 out of
-memory; 6 a file has more than 268435456 bytes or the wheel more than 16384
-places.
+Statuses: 0 done; 1 the wheel, the image or the capture is refused, after the
+lines of the instants before its fault; 2 usage; 3 a read failed; 4 a write
+failed; 5 out of memory; 6 a file has more than 268435456 bytes, or the wheel
+more than 16384 places or a table of too many states.
 ";
 
 const IMPORT: &[u8] = b"wheelsync import SOURCE NAME
