@@ -4,5 +4,5 @@
 mod load;
 mod sound;
 
-pub use load::load_table;
+pub use load::load_image;
 pub use sound::sound_image;

@@ -1,4 +1,4 @@
-//! Loading a model's table.
+//! The image of a model.
 ghost use Rattle.std.specs.Prelude.{◌≡◌, ◌⊎◌, IfOk, IfErr, IsTrue, ◌↔◌};
 ghost use Rattle.wheel_pattern.specs.WheelFile.{MeansWheel, HasFault};
 ghost use Rattle.run_ends.specs.Loads.{Loads};
@@ -56,13 +56,13 @@ fn image_by(alloc: Global, bytes: Vec<u8>) -> Result<Vec<u8>, Cause>
     image_of(alloc, &wheel)
 }
 
-/// Reads the table of a model's file: the image that it holds, whatever its bytes say past the first four, or the compiled image of the
+/// Reads the image of a model's file: the one that it holds, whatever its bytes say past the first four, or the compiled image of the
 /// wheel that it holds.
 ///
 /// # Errors
 /// `Refusal::Wheel` with the first fault of a file that is neither an image nor a wheel's; `Limit::Places` past 16,384 places, or
 /// `Limit::States` past the limit on states that holds; `ReadFault` where the shelf failed, `Limit::File` past 2^28 bytes, or `Memory`.
-pub fn load_table<S: Shelf>(alloc: Global, shelf: &mut S, name: &str) -> Result<Vec<u8>, Cause>
+pub fn load_image<S: Shelf>(alloc: Global, shelf: &mut S, name: &str) -> Result<Vec<u8>, Cause>
     ensures { Loads (S.view shelf.old) (S.view shelf.old) (S.view shelf.new) name.now (TableGives (S.view shelf.old).file name.now) (λ image. HasModelImage (S.view shelf.old).file name.now image.items) result }
 {
     let bytes = load(alloc, shelf, name)?;

@@ -21,7 +21,7 @@ use run_ends::{Cause, Done};
 use run_files::ended;
 use shelf_io::{Shelf, Sink};
 use std::alloc::Global;
-use table_models::{load_table, sound_image};
+use table_models::{load_image, sound_image};
 use tap_board::{Board, Tap};
 use wheel_types::Memory;
 
@@ -68,7 +68,7 @@ pub fn replay<S: Shelf, O: Sink>(
         model.now capture.now (options_of options.entry)) None (S.view shelf.old) (S.view shelf.new)
         (stream (O.faults out.old) (O.taken out.old) (O.steady out.old)) (stream (O.faults out.new) (O.taken out.new) (O.steady out.new)) result.tails.items result.end }
 {
-    let image = match load_table(alloc, shelf, model) {
+    let image = match load_image(alloc, shelf, model) {
         Ok(image) => image,
         Err(cause) => return without_tails(alloc, Err(cause)),
     };
