@@ -1,5 +1,5 @@
 -- A model's table that is loaded, and why it is not.
-use Rattle.std.proofs.Common.{◌≡◌, ℕ, ◌⊎◌, inl, inr, List, Option, Result, Ok, Err}
+use Rattle.std.proofs.Common.{◌≡◌, ℕ, inl, inr, List, Ok, Err}
 use Rattle.shelf_traits.specs.Shelf.{View}
 use Rattle.wheel_types.specs.declared.parts.WheelParts.{WheelParts}
 use Rattle.wheel_pattern.specs.WheelFile.{MeansWheel}

@@ -1,5 +1,5 @@
 -- A model's file gives one wheel, and an accepted one no cause to end.
-use Rattle.std.proofs.Common.{◌≡◌, ℕ, inl, inr, List, Option, None, Some, refl, sym, ◌∙◌, ap, subst}
+use Rattle.std.proofs.Common.{◌≡◌, ℕ, inl, inr, List, Option, None, Some, sym, ◌∙◌, ap, subst}
 use Rattle.std.specs.Prelude.{is_some}
 use Rattle.wheel_types.specs.declared.parts.WheelParts.{WheelParts}
 use Rattle.wheel_types.specs.Wheels.{IsWheel}
@@ -17,15 +17,13 @@ use Rattle.run_ends.specs.declared.cause.Cause.{Cause}
 use Rattle.run_ends.specs.declared.cause.Cause.TheVariants as cause
 use Rattle.run_ends.specs.declared.cause.Refusal.TheVariants as refusal
 use Rattle.run_ends.specs.declared.cause.Limit.TheVariants as limit
-use Rattle.run_files.specs.Files.{Holds}
-use Rattle.run_files.specs.Causes.{FileGives}
 use Rattle.run_files.proofs.Ready.{same_bytes, file_gives_none}
-use Rattle.table_commands.specs.States.{HasFewStates, HasManyStates, given_limit}
+use Rattle.table_commands.specs.States.{HasFewStates, given_limit}
 use Rattle.table_commands.proofs.OneFamily.{family_gives_none}
 use Rattle.compile_command.proofs.Compiling.{few_states}
 use Rattle.image_commands.specs.Images.{LayoutGives}
 use Rattle.image_commands.proofs.Ready.{audit_gives_none}
-use Rattle.table_models.specs.Models.{BeginAsImage, AreWheelFile, GivesImage, HasModelImage, NotWheelGives, NoImageGives, BytesGive, TableGives, NotSoundGives, MeansModel, HasModel}
+use Rattle.table_models.specs.Models.{GivesImage, HasModelImage, NotWheelGives, NoImageGives, BytesGive, TableGives, NotSoundGives, MeansModel, HasModel}
 
 -- the compiled image of a wheel is sound
 compiled_sound : (w : WheelParts) (b : List ℕ) → IsCompiled w given_limit b → IsSoundImage b

@@ -1,5 +1,5 @@
 -- The tables that a replay's model gives: the image that its file holds, or the compiled image of the wheel that it holds.
-use Rattle.std.specs.Prelude.{◌≡◌, ◌⊎◌, ℕ, List, take, codes, Some}
+use Rattle.std.specs.Prelude.{◌≡◌, ◌⊎◌, ℕ, List, take, codes}
 use Rattle.std.specs.declared.option.Option.{Option}
 use Rattle.wheel_types.specs.declared.parts.WheelParts.{WheelParts}
 use Rattle.wheel_pattern.specs.WheelFile.{MeansWheel, HasFault}

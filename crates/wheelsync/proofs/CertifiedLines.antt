@@ -1,5 +1,5 @@
 -- The lines of a report that a certificate stands beside are the report of the instants.
-use Rattle.std.proofs.Common.{◌≡◌, ◌∙◌, ap, refl, ℕ, ◌+◌, List, [], ◌∷◌, ◌++◌, length, reverse}
+use Rattle.std.proofs.Common.{◌≡◌, ◌∙◌, ap, refl, ℕ, ◌+◌, List, [], ◌∷◌, ◌++◌, reverse}
 use Rattle.std.proofs.lemmas.List.{length-reverse}
 use Rattle.std.specs.Prelude.{flat_map}
 use Rattle.wheel_types.specs.declared.parts.WheelParts.{WheelParts}
@@ -12,10 +12,9 @@ use Rattle.wheel_types.proofs.ShapeTexts.{report_line_text-instant}
 use Rattle.certificate_checker.specs.Reports.{reports_of}
 use Rattle.certificate_checker.specs.Reports.{report_of as record_of}
 use Rattle.certificate_checker.proofs.ExactExists.{exact_verdicts}
-use Rattle.run_ends.specs.Stages.{Fellows, lines_text}
-use Rattle.certified_replay.specs.Certified.{AreCertified, fellows_of}
+use Rattle.run_ends.specs.Stages.{lines_text}
+use Rattle.certified_replay.specs.Certified.{fellows_of}
 use Rattle.certified_replay.proofs.Fellows.{as_many, exact_counts, lines_of_report}
-use Rattle.wheelsync.specs.Headline.{IsReport}
 use Rattle.wheelsync.specs.Laws.{CertifiedLinesAreTheReport}
 use Rattle.wheelsync.proofs.Sayings.{report_of}
 

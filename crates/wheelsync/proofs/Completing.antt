@@ -27,7 +27,6 @@ use Rattle.run_files.specs.Files.{HasPlacedWheel, HasTable}
 use Rattle.wheelsync.specs.Complete.{AreAccepted, AreReady, IsDenied, IsDue}
 use Rattle.wheel_types.specs.declared.parts.WheelParts.{WheelParts}
 use Rattle.table_models.proofs.Ending.{model_ends, model_not_usage}
-use Rattle.check_command.specs.Check.{IsCheck}
 use Rattle.check_command.proofs.Answered.{EndsIn, check_ends, check_not_usage, valid_ends, invalid_ends}
 use Rattle.run_files.proofs.Ready.{model_gives_none, file_gives_none, source_gives_none, file_has_one_wheel, file_has_one_table}
 use Rattle.named_captures.specs.Captures.{HasNamedCapture}
@@ -38,7 +37,6 @@ use Rattle.certified_replay.proofs.Ending.{certified_ends, certified_not_usage}
 use Rattle.wheelsync.specs.Replay.{IsReplay, IsReplayed, IsReplayOver, IsReplayPast, IsReported}
 use Rattle.wheelsync.specs.Import.{IsImport}
 use Rattle.table_commands.specs.States.{HasFewStates, FamilyGives}
-use Rattle.compile_command.specs.Compile.{IsCompile}
 use Rattle.compile_command.proofs.Compiling.{compile_ends, compile_not_usage}
 use Rattle.table_commands.specs.Size.{IsSize, IsSized}
 use Rattle.table_commands.proofs.OneFamily.{family_gives_none}
@@ -206,7 +204,7 @@ replay_not_usage v tails m c o work r =
     (λ last p.
     takes_end v (FileGives v.file c) (HasNamedCapture v.file c w o) (λ k. WritesLines (IsReported w k)) (λ end. end ≡ Err cause.Usage → ⊥) last (λ e s. not_cause e (read_not_usage v (FileGives v.file c) e s))
     (λ k b t. lines_end (IsReported w k) (λ end. end ≡ Err cause.Usage → ⊥) last (λ all end d is. ended_not_usage k.end (sym d.1 ∙ is)) (λ e s. not_cause e (write_not_usage e s)) t) p)
-    (λ is. cc) q))
+    (λ is. cc) q) n)
     r
 
 replayed_not_usage : (v : View) (tails : List ℕ → List ℕ) (m c : List ℕ) (f : Option (List ℕ)) (o : Options) (work : Work) → IsReplayed v tails m c f o work → work.end ≡ Err cause.Usage → ⊥

@@ -1,5 +1,5 @@
 -- A replay past the opening of its capture.
-use Rattle.std.proofs.Common.{◌≡◌, ℕ, ◌⊎◌, inl, inr, List, [], ◌∷◌, None, Result, Err, refl, ◌∙◌, ap, subst, arith}
+use Rattle.std.proofs.Common.{◌≡◌, ℕ, inl, inr, List, [], None, Result, Err, refl, ◌∙◌, ap, subst, arith}
 use Rattle.std.specs.Prelude.{IsTrue}
 use Rattle.std.proofs.KnownBytes.{Appends-nil}
 use Rattle.shelf_traits.specs.Count.{Rose, RoseWhere}
@@ -12,10 +12,9 @@ use Rattle.command_words.specs.Options.{Options}
 use Rattle.run_ends.specs.declared.cause.Done.{Done}
 use Rattle.run_ends.specs.declared.cause.Cause.{Cause}
 use Rattle.run_ends.specs.declared.cause.Cause.TheVariants as cause
-use Rattle.run_ends.specs.declared.cause.Limit.TheVariants as limit
 use Rattle.run_ends.specs.Works.{Work, stopped, read_slot, after}
 use Rattle.run_ends.specs.Lines.{WritesLines}
-use Rattle.run_ends.specs.Stages.{Past, Opens, Closes}
+use Rattle.run_ends.specs.Stages.{Past}
 use Rattle.run_ends.specs.Serving.{Stream, Tells}
 use Rattle.run_ends.proofs.Noting.{rose_before}
 use Rattle.certified_replay.specs.Openings.{HasOpened, StopsTaking, IsTaken}

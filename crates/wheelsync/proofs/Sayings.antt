@@ -9,7 +9,7 @@ use Rattle.wheel_types.specs.Texts.{report_text, line_text}
 use Rattle.wheelsync.specs.Sayings.{SaysAt, SaysOpen, SaysLost, AllEndAt, TwoEndApart, Each, SinceReset}
 use Rattle.run_ends.specs.Lines.{text_of}
 use Rattle.wheelsync.specs.Headline.{IsReport}
-use Rattle.wheelsync.specs.Reported.{marked_line, lines_of, AreReported}
+use Rattle.wheelsync.specs.Reported.{lines_of, AreReported}
 
 says_at : (w : WheelParts) (is : List Instant) (v : Verdict) → IsVerdict w is v → (p : ℕ) → SaysAt p v ↔ (AreGiven w is × AllEndAt w is p)
 says_at w is (At j slot) h p = (λ e. (h.0, λ q ends. h.1 q ends ∙ e), λ s. sym (h.1 s.0.0 s.0.1) ∙ s.1 s.0.0 s.0.1)

@@ -1,4 +1,4 @@
-use Rattle.std.proofs.Common.{◌≡◌, ◌∙◌, ◌∷◌, inr, ap, subst, ℤ, Option, None, Some}
+use Rattle.std.proofs.Common.{◌≡◌, ◌∙◌, ◌∷◌, inr, refl, subst, ℤ, Option, None, Some}
 use Rattle.std.specs.Prelude.{IsTrue, IfSome, int_lt, ◌<ℤ◌}
 use Rattle.std.specs.Io.KnownBytes.{Appends}
 use Rattle.std.proofs.lemmas.Bool.{cases_Bool}
@@ -16,8 +16,8 @@ before : (last : Option ℤ) (u : ℤ) → IfSome last (λ t. t <ℤ u) → IsTr
 before None u h = refl
 before (Some t) u h = below t u h
 
-pub step-requires-clause-later : goal.step-requires-clause-later
-step-requires-clause-later g c = before _ c.args.instant.now.time c.requires.later
+pub step-report-requires-clause-later : goal.step-report-requires-clause-later
+step-report-requires-clause-later g c = before _ c.args.instant.now.time c.requires.later
 
 pub returns-in-Ok-tell-clause-ok : goal.returns-in-Ok-tell-clause-ok
 returns-in-Ok-tell-clause-ok g c = λ w past verdicts s rising.

@@ -3,11 +3,11 @@ use Rattle.std.specs.Prelude.{IsTrue}
 use Rattle.wheelsync.proofs.Putting.{HasPut}
 use Rattle.wheelsync.proofs.put.put_report.Given as goal
 
-abbrev pub invariant-loop-number : goal.invariant-loop-number
-invariant-loop-number g l = record {
+abbrev pub invariant-loop-instant : goal.invariant-loop-instant
+invariant-loop-instant g l = record {
   put : HasPut l.fn.session l.session (g.O.Sink.taken l.fn.out) (g.O.Sink.taken l.out)
       (map (λ b. (goal.Tap-dyn g (b.vtable, b.value)).meaning b.value) l.fn.board.taps.items)
-      (map (λ b. (goal.Tap-dyn g (b.vtable, b.value)).meaning b.value) l.board.taps.items) l.instants l.number;
+      (map (λ b. (goal.Tap-dyn g (b.vtable, b.value)).meaning b.value) l.board.taps.items) l.instants l.instant-index;
   steady : IsTrue (g.O.Sink.steady l.fn.out) → IsTrue (g.O.Sink.steady l.out);
   same : g.O.Sink.faults l.out ≡ g.O.Sink.faults l.fn.out;
 }

@@ -1,12 +1,10 @@
-use Rattle.std.proofs.Common.{◌≡◌, ◌∙◌, [], ap, refl, sym, subst, Err}
+use Rattle.std.proofs.Common.{◌≡◌, ◌∙◌, [], ap, refl, subst, Err}
 use Rattle.std.proofs.lemmas.Result.{err_from_is_err_and}
 use Rattle.image_format.specs.declared.view.View.{View}
-use Rattle.image_layout.specs.Fields.{wheel_parts_of}
-use Rattle.image_layout.specs.Rules.{IsImage}
-use Rattle.table_images.specs.Images.{IsSoundImage}
+use Rattle.image_format.proofs.Wheels.{is_wheel}
+use Rattle.wheel_types.specs.Wheels.{IsWheel}
 use Rattle.run_ends.proofs.Serving.{rises}
-use Rattle.replay_core.specs.declared.session.Session.{Session}
-use Rattle.replay_core.specs.Sessions.{StandsFor, image_of}
+use Rattle.replay_core.specs.Sessions.{image_of}
 use Rattle.wheelsync.specs.Stepping.{StandsOver}
 use Rattle.wheelsync.proofs.Endings.{report_front, report_whole, front_as, whole_as}
 use Rattle.wheelsync.proofs.Putting.{fresh_over}
@@ -22,18 +20,23 @@ pub returns-in_err-put_report : goal.returns-in_err-put_report
 returns-in_err-put_report g c =
     let p = err_from_is_err_and c.from_residual-in_err-put_report.result c.from_residual-in_err-put_report.ensures.1 in
     let b = c.args.sound.now.view.bytes.now in
-    let shown : c.again.result.bytes.now ≡ b = ? in
-    let over : StandsOver c.args.watched.wheel.parts c.new-session.result [] [] = ? in
+    let image : image_of c.new-session.result ≡ b = c.new-session.ensures.image ∙ c.again.ensures ∙ ap (λ (v : View). v.bytes.now) c.view.ensures.view in
+    let over : StandsOver c.args.watched.wheel.parts c.new-session.result [] [] =
+    fresh_over c.args.watched.wheel.parts c.new-session.result b image (c.args.sound.now.view.keeps, c.args.sound.now.sound) c.requires.wheel c.new-session.ensures.stands in
+    let wheel = subst IsWheel c.requires.wheel (is_wheel b c.args.sound.now.view.keeps) in
     rw (p.1, p.2)
     (λ v name h.
     taken v _ _ _ name _ c.in_ok-capture.capture _ _ _ c.args.source _ h c.take_capture.ensures.keeps c.take_capture.ensures.place c.in_ok-capture.ensures.taken c.in_ok-capture.ensures.ok
     (report_front _ _ _ _ _ _ c.in_ok-capture.capture _
-    (front_as _ _ _ _ _ _ _ _ c.as_slice.ensures (c.in_err-put_report.ensures.err c.args.watched.wheel.parts ? over))
+    (front_as _ _ _ _ _ _ _ _ c.as_slice.ensures (c.in_err-put_report.ensures.err c.args.watched.wheel.parts wheel over))
     c.in_err-put_report.ensures.kinds (rises _ _ c.in_err-put_report.field-0.0 _ c.in_err-put_report.ensures.later c.in_err-put_report.ensures.write c.in_err-put_report.ensures.quiet) (λ is still. c.in_err-put_report.ensures.calm still (ap Err is)) c.in_err-put_report.ensures.steady))
 
 pub returns : goal.returns
 returns g c =
-    let over : StandsOver c.args.watched.wheel.parts c.new-session.result [] [] = ? in
+    let b = c.args.sound.now.view.bytes.now in
+    let image : image_of c.new-session.result ≡ b = c.new-session.ensures.image ∙ c.again.ensures ∙ ap (λ (v : View). v.bytes.now) c.view.ensures.view in
+    let over : StandsOver c.args.watched.wheel.parts c.new-session.result [] [] =
+    fresh_over c.args.watched.wheel.parts c.new-session.result b image (c.args.sound.now.view.keeps, c.args.sound.now.sound) c.requires.wheel c.new-session.ensures.stands in
     rw (c.ended.ensures)
     (λ v name h.
     taken v _ _ _ name _ c.in_ok-capture.capture _ _ _ c.args.source _ h c.take_capture.ensures.keeps c.take_capture.ensures.place c.in_ok-capture.ensures.taken c.in_ok-capture.ensures.ok
