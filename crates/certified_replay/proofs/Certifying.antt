@@ -1,17 +1,16 @@
 -- A replay with a certificate, served call by call.
-use Rattle.std.proofs.Common.{◌≡◌, ◌≢◌, ℕ, suc, ◌+◌, ◌<◌, ◌≤◌, ◌^◌, ◌⊎◌, inl, inr, List, [], ◌∷◌, ◌++◌, length, drop, slice_get, Option, None, Some, unwrap_or, Result, Ok, Err, refl, sym, ◌∙◌, ap, subst, arith, length-append}
+use Rattle.std.proofs.Common.{◌≡◌, ◌≢◌, ℕ, ◌+◌, ◌<◌, ◌≤◌, ◌⊎◌, inl, inr, List, [], ◌∷◌, ◌++◌, length, slice_get, Option, None, Some, unwrap_or, Result, Ok, Err, refl, sym, ◌∙◌, ap, subst, arith, length-append}
 use Rattle.std.proofs.Math.Seq.{get_or-append_seam}
 use Rattle.std.proofs.lemmas.Option.{slice_get-get_or, slice_get_within, get_or_from_slice_get}
 use Rattle.std.proofs.lemmas.List.{get_or_append_left}
 use Rattle.std.specs.Prelude.{IsTrue, IsSome}
-use Rattle.std.specs.Io.KnownBytes.{Appends}
 use Rattle.std.proofs.KnownBytes.{Appends-nil}
 use Rattle.shelf_traits.specs.declared.shelf.Way.{Way}
 use Rattle.shelf_traits.specs.declared.shelf.Way.TheVariants as way
 use Rattle.shelf_traits.specs.Count.{Rose, RoseWhere}
-use Rattle.shelf_traits.specs.Shelf.{View, Position, ReadsOn, WritesOn, IsReader, IsWriter, left_at}
+use Rattle.shelf_traits.specs.Shelf.{View, Position, ReadsOn, WritesOn, IsReader, IsWriter}
 use Rattle.shelf_io.specs.Touching.{Opened, Touches, FailedWrite}
-use Rattle.shelf_io.proofs.Touching.{touches_after, touches_lifted, touches_read}
+use Rattle.shelf_io.proofs.Touching.{touches_after, touches_read}
 use Rattle.wheel_types.specs.declared.parts.WheelParts.{WheelParts}
 use Rattle.wheel_types.specs.declared.instant.Instant.{Instant}
 use Rattle.capture_core.specs.declared.capture.Capture.{Capture}
@@ -21,21 +20,19 @@ use Rattle.command_words.specs.Options.{Options}
 use Rattle.run_ends.specs.declared.cause.Done.{Done}
 use Rattle.run_ends.specs.declared.cause.Cause.{Cause}
 use Rattle.run_ends.specs.declared.cause.Cause.TheVariants as cause
-use Rattle.run_ends.specs.declared.cause.Limit.TheVariants as limit
-use Rattle.run_ends.specs.Works.{Work, Told, StopsOpen, StopsRead, StopsWrite, stopped, read_slot, after}
-use Rattle.run_ends.specs.Stages.{Fellows, Past, Opens, Closes, Creates, Takes, WritesBoth, Stopped, write_slot, lines_text, beside_text, marks_beside}
-use Rattle.run_ends.specs.Filing.{StoppedOver, HasCreated, NotCreated, Grows}
-use Rattle.run_ends.specs.Serving.{Stream, Served, Tells}
+use Rattle.run_ends.specs.Works.{Work, StopsWrite, stopped, read_slot, after}
+use Rattle.run_ends.specs.Stages.{Fellows, Past, Takes, write_slot, lines_text, beside_text, marks_beside}
+use Rattle.run_ends.specs.Filing.{HasCreated, NotCreated, Grows}
+use Rattle.run_ends.specs.Serving.{Stream, Tells}
 use Rattle.run_ends.proofs.Tapping.{stops_write}
 use Rattle.run_ends.proofs.CreatedFiles.{touches_grown}
 use Rattle.run_files.specs.Causes.{FileGives, ended_by}
-use Rattle.run_files.specs.Files.{Holds, IsTooLong}
-use Rattle.named_captures.specs.Captures.{HasNamedCapture, IsCapture}
+use Rattle.named_captures.specs.Captures.{HasNamedCapture}
 use Rattle.certified_replay.proofs.Taking.{IsLeft, left_whole, stops_reading, accepted, takes_before, opens_before}
-use Rattle.certified_replay.specs.Openings.{HasOpened, NotOpened, StopsTaking, IsTaken}
-use Rattle.certified_replay.specs.Certified.{AreCertified, ReadsBack, WritesCertified, IsCertifiedPast, IsCertifiedOver}
+use Rattle.certified_replay.specs.Openings.{HasOpened, StopsTaking, IsTaken}
+use Rattle.certified_replay.specs.Certified.{AreCertified, WritesCertified, IsCertifiedPast, IsCertifiedOver}
 use Rattle.tap_board.specs.Meanings.{Meaning, told_all}
-use Rattle.certified_replay.specs.Puts.{StoppedBoth, GetsTexts, GetsBoth, GetsBothFront}
+use Rattle.certified_replay.specs.Puts.{StoppedBoth, GetsBoth, GetsBothFront}
 
 -- ---- causes
 

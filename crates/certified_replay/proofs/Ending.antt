@@ -1,5 +1,5 @@
 -- How a replay with a certificate ends, by its parts.
-use Rattle.std.proofs.Common.{◌≡◌, ℕ, ◌⊎◌, inl, inr, List, [], Option, None, Some, unwrap_or, Result, Ok, Err, refl, sym, ◌∙◌, ap, subst}
+use Rattle.std.proofs.Common.{◌≡◌, ℕ, ◌⊎◌, inl, inr, List, [], None, Some, unwrap_or, Result, Err, sym, ◌∙◌, subst}
 use Rattle.std.specs.Prelude.{IsTrue}
 use Rattle.shelf_traits.specs.Shelf.{View}
 use Rattle.wheel_types.specs.declared.parts.WheelParts.{WheelParts}
@@ -10,12 +10,13 @@ use Rattle.command_words.specs.Options.{Options}
 use Rattle.run_ends.specs.declared.cause.Cause.{Cause}
 use Rattle.run_ends.specs.declared.cause.Cause.TheVariants as cause
 use Rattle.run_ends.specs.declared.cause.Done.{Done}
-use Rattle.run_ends.specs.Works.{Work, Told, StopsOpen, StopsRead, StopsWrite, stopped, read_slot, after}
+use Rattle.run_ends.specs.Works.{Work, Told, StopsOpen, StopsRead, StopsWrite, stopped, after}
 use Rattle.run_ends.specs.Stages.{Fellows, Closes, Creates, Takes, Stopped, write_slot, lines_text, beside_text, marks_beside}
-use Rattle.run_ends.proofs.Completing.{reads_end, opens_end, closes_end, reads_ready, open_not_usage, read_not_usage, write_not_usage}
-use Rattle.run_files.specs.Causes.{FileGives, ModelGives, ended_by}
-use Rattle.run_files.specs.Files.{HasPlacedWheel}
-use Rattle.run_files.proofs.Ready.{model_gives_none, file_gives_none, file_has_one_wheel}
+use Rattle.run_ends.proofs.Completing.{opens_end, closes_end, open_not_usage, read_not_usage, write_not_usage}
+use Rattle.run_files.specs.Causes.{FileGives, ended_by}
+use Rattle.run_files.proofs.Ready.{file_gives_none}
+use Rattle.table_models.specs.Models.{HasModel}
+use Rattle.table_models.proofs.Ending.{model_ends, model_not_usage}
 use Rattle.named_captures.specs.Captures.{HasNamedCapture}
 use Rattle.named_captures.proofs.FileNames.{file_has_one_capture}
 use Rattle.certified_replay.specs.Certified.{WritesCertified, IsCertifiedPast, IsCertifiedOver, IsCertified}
@@ -58,11 +59,10 @@ over_ends v tails w capture cert o P work ends r =
     (λ rest n. closes_end tails (IsCertifiedPast v w capture cert o) P rest (λ more m. creates_ends v w capture cert o P more ends m) ends.closing n) r
 
 -- over accepted files and a steady shelf it ends as the capture does, or wants memory, or a write fails
-pub certified_ends : (P : Result Done Cause → Type 0) (v : View) (tails : List ℕ → List ℕ) (model capture cert : List ℕ) (o : Options) (w : WheelParts) (c : Capture) (work : Work) → IsTrue v.tells → IsTrue v.steady → HasPlacedWheel v.file model w
+pub certified_ends : (P : Result Done Cause → Type 0) (v : View) (tails : List ℕ → List ℕ) (model capture cert : List ℕ) (o : Options) (w : WheelParts) (c : Capture) (work : Work) → IsTrue v.tells → IsTrue v.steady → HasModel v.file model w
     → HasNamedCapture v.file capture w o c → P (ended_by c.end) → P (Err cause.Memory) → P (Err cause.WriteFault) → IsCertified v tails model capture cert o work → P work.end
 certified_ends P v tails model capture cert o w c work told steady m k done memory fault r =
-    reads_ready v model (ModelGives v.file model) (HasPlacedWheel v.file model) (λ w. IsCertifiedOver v tails w capture cert o) P m.wheel.bytes w work told steady m.wheel.holds.there (model_gives_none v.file model w m)
-    (λ u h. file_has_one_wheel v.file model u w h.wheel m.wheel) memory
+    model_ends P v model w (λ w. IsCertifiedOver v tails w capture cert o) work told steady m memory
     (λ rest n. over_ends v tails w capture cert o P rest (record { opening = opening; reading = reading; writing = writing; closing = memory; done = λ d a. subst (λ (e : Capture). P (ended_by e.end)) (sym (file_has_one_capture v.file capture w o d c (a told) k)) done }) n) r
   where
     opening : (e : Cause) → StopsOpen v capture e → P (Err e)
@@ -100,9 +100,8 @@ not_cause e n is = let same : e ≡ cause.Usage = cc in n same
 -- it does not end for usage
 pub certified_not_usage : (v : View) (tails : List ℕ → List ℕ) (model capture cert : List ℕ) (o : Options) (work : Work) → IsCertified v tails model capture cert o work → work.end ≡ Err cause.Usage → ⊥
 certified_not_usage v tails model capture cert o work r =
-    reads_end v model (ModelGives v.file model) (HasPlacedWheel v.file model) (λ w. IsCertifiedOver v tails w capture cert o) (λ end. end ≡ Err cause.Usage → ⊥) work
-    (λ e s. not_cause e (open_not_usage v model e s)) (λ e s. not_cause e (read_not_usage v (ModelGives v.file model) e s))
-    (λ w rest a n.
+    model_not_usage v model (λ w. IsCertifiedOver v tails w capture cert o) work
+    (λ w rest n.
     over_ends v tails w capture cert o (λ end. end ≡ Err cause.Usage → ⊥) rest (record {
       opening = λ e s. not_cause e (open_not_usage v capture e s);
       reading = λ e s. not_cause e (read_not_usage v (FileGives v.file capture) e s);

@@ -1,6 +1,6 @@
 -- The lines of a report and of a certificate side by side, of some instants and of more of them.
-use Rattle.std.proofs.Common.{◌≡◌, ℕ, zero, suc, ◌+◌, ◌<◌, ◌≤◌, List, [], ◌∷◌, ◌++◌, length, reverse, take, drop, refl, sym, ◌∙◌, ap, subst, arith, take-append-drop, length-append}
-use Rattle.std.proofs.lemmas.List.{reverse-append, length-reverse, length-drop}
+use Rattle.std.proofs.Common.{◌≡◌, ℕ, suc, ◌+◌, List, [], ◌∷◌, ◌++◌, length, reverse, take, drop, refl, sym, ◌∙◌, ap, subst, arith, take-append-drop}
+use Rattle.std.proofs.lemmas.List.{reverse-append, length-reverse}
 use Rattle.std.specs.Prelude.{All, flat_map}
 use Rattle.wheel_types.specs.declared.instant.Instant.{Instant}
 use Rattle.wheel_types.specs.declared.verdict.Verdict.{Verdict}

@@ -1,3 +1,4 @@
+pub mod Walked
 pub mod Marks
 pub mod ExactLines
 pub mod Fellows

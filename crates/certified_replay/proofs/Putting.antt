@@ -1,10 +1,10 @@
 -- A report and its certificate that are written line by line.
-use Rattle.std.proofs.Common.{◌≡◌, ℕ, zero, suc, ◌+◌, ◌<◌, ◌≤◌, ◌⊎◌, inl, inr, ℤ, ◌<ℤ◌, List, [], ◌∷◌, ◌++◌, length, reverse, take, drop, get_or, refl, sym, ap, ◌∙◌, subst, arith, add-one, append_assoc, append-nil, length-drop}
+use Rattle.std.proofs.Common.{◌≡◌, ℕ, zero, suc, ◌+◌, ◌<◌, ◌⊎◌, inl, inr, ℤ, ◌<ℤ◌, List, [], ◌∷◌, ◌++◌, length, reverse, take, drop, get_or, refl, sym, ap, ◌∙◌, subst, arith, add-one, append_assoc, append-nil, length-drop}
 use Rattle.std.proofs.lemmas.List.{length-take-le, length-reverse, reverse-append, map-append}
 use Rattle.std.proofs.lemmas.List.Elements.{All-append, All-cons}
 use Rattle.std.proofs.lemmas.Grind.{flat_map-append}
 use Rattle.std.proofs.Math.Seq.{take-length, take-suc}
-use Rattle.std.specs.Prelude.{All, Option, Some, None, IfSome, IsTrue, flat_map, Result, Ok, Err, IfErr, OnErr}
+use Rattle.std.specs.Prelude.{All, Option, Some, None, IfSome, IsTrue, Result, Ok, Err, IfErr, OnErr}
 use Rattle.std.specs.Io.KnownBytes.{Appends}
 use Rattle.std.proofs.KnownBytes.{Appends-trans}
 use Rattle.shelf_traits.specs.Shelf.{View, Position, WritesOn}
@@ -13,14 +13,15 @@ use Rattle.wheel_types.specs.declared.instant.Instant.{Instant}
 use Rattle.wheel_types.specs.declared.verdict.Verdict.{Verdict}
 use Rattle.wheel_types.specs.Wheels.{IsWheel}
 use Rattle.wheel_types.specs.Verdicts.{IsRising}
-use Rattle.plain_motion.specs.declared.set.PlainSet.{PlainSet}
+use Rattle.replay_core.specs.declared.session.Session.{Session}
 use Rattle.plain_motion.specs.Memories.{last_time}
-use Rattle.plain_motion.specs.Sets.{StandsFor, wheel_of, last_of}
+use Rattle.image_layout.specs.Fields.{wheel_parts_of}
+use Rattle.replay_core.specs.Sessions.{image_of, last_of, stepped_of}
 use Rattle.pair_certificate.specs.declared.line.CertLine.{CertLine}
 use Rattle.pair_certificate.specs.Reports.{IsReportInRange, IsCertLineInRange}
 use Rattle.certificate_checker.specs.Exact.{AreExactLines}
 use Rattle.certificate_checker.specs.Reports.{report_of, reports_of}
-use Rattle.run_ends.specs.Stages.{Fellows, AreCut, lines_text, beside_text, marks_beside}
+use Rattle.run_ends.specs.Stages.{Fellows, lines_text, beside_text, marks_beside}
 use Rattle.run_ends.specs.Filing.{Grows}
 use Rattle.run_ends.specs.declared.cause.Cause.TheVariants as cause
 use Rattle.tap_board.specs.Marks.{mark_of}
@@ -35,10 +36,12 @@ use Rattle.wheel_types.specs.Texts.{report_line_text}
 use Rattle.wheel_types.specs.declared.verdict.Report.{Report}
 use Rattle.pair_certificate.specs.Certificates.{cert_line_text}
 use Rattle.certified_replay.specs.declared.lines.Lines.{Lines}
+use Rattle.certified_replay.specs.Walked.{wheel_of, HasWalked}
 use Rattle.certified_replay.specs.Lines.{AddsLines}
+use Rattle.certified_replay.proofs.Walked.{rising_next}
 use Rattle.certified_replay.specs.Certified.{AreCertified}
 use Rattle.certified_replay.specs.Puts.{GetsTexts, GetsCut, GetsLines, GetsCutLines, GetsBoth, GetsBothFront, StoppedBoth, stand_beside, fellow_of}
-use Rattle.certified_replay.proofs.Fellows.{exact_counts, pairs_of, reports_more, pairs_more, certified_by, believed_by, Goes, goes_on}
+use Rattle.certified_replay.proofs.Fellows.{exact_counts, pairs_of, reports_more, pairs_more, certified_by, believed_by, goes_on}
 
 -- ---- two texts
 
@@ -92,7 +95,7 @@ cut_past v w slot old new line beside mark texts = record {
 
 -- ---- one instant
 
-pub lines_put : (w : WheelParts) (set : PlainSet) (v u : View) (slot : ℕ) (old new : Option (List ℕ)) (taps live : List Meaning) (i : Instant) (past : List Instant) (verdicts : List Verdict) (certificate : List CertLine) (lines : Lines)
+pub lines_put : (w : WheelParts) (set : Session) (v u : View) (slot : ℕ) (old new : Option (List ℕ)) (taps live : List Meaning) (i : Instant) (past : List Instant) (verdicts : List Verdict) (certificate : List CertLine) (lines : Lines)
     → AddsLines w set i past verdicts certificate lines → GetsTexts v u slot old new lines.report.items lines.certificate.items → live ≡ told (mark_of lines.said.verdict) taps → GetsLines w set v u slot old new taps live i past verdicts certificate
 lines_put w set v u slot old new taps live i past verdicts certificate lines a texts heard = record {
   takes = a.takes;
@@ -100,7 +103,7 @@ lines_put w set v u slot old new taps live i past verdicts certificate lines a t
   heard = heard ∙ ap (λ (r : Report). told (mark_of r.verdict) taps) a.said;
 }
 
-pub lines_cut : (e : Cause) (w : WheelParts) (set : PlainSet) (v u : View) (slot : ℕ) (old new : Option (List ℕ)) (i : Instant) (past : List Instant) (verdicts : List Verdict) (certificate : List CertLine) (lines : Lines)
+pub lines_cut : (e : Cause) (w : WheelParts) (set : Session) (v u : View) (slot : ℕ) (old new : Option (List ℕ)) (i : Instant) (past : List Instant) (verdicts : List Verdict) (certificate : List CertLine) (lines : Lines)
     → AddsLines w set i past verdicts certificate lines → GetsCut e v u slot old new (stand_beside lines.report.items lines.certificate.items (mark_of lines.said.verdict)) → GetsCutLines e w set v u slot old new i past verdicts certificate
 lines_cut e w set v u slot old new i past verdicts certificate lines a cut = record {
   takes = a.takes;
@@ -138,29 +141,31 @@ unwritten v slot = record {
 -- ---- the first k instants
 
 -- they were taken, out and the file have their lines, and the taps were told their marks
-pub record HasPut (first set : PlainSet) (v u : View) (slot : ℕ) (old new : Option (List ℕ)) (taps live : List Meaning) (is : List Instant) (k : ℕ) : Type 0 where
+pub record HasPut (first set : Session) (v u : View) (slot : ℕ) (old new : Option (List ℕ)) (taps live : List Meaning) (is : List Instant) (k : ℕ) : Type 0 where
   pub verdicts : List Verdict
   pub lines : List CertLine
   pub window : List Instant
-  pub stands : StandsFor set (reverse (take k is)) verdicts
+  pub walked : HasWalked set (reverse (take k is)) verdicts
   pub exact : AreExactLines (wheel_of first) (reverse (take k is)) verdicts lines window
-  pub wheel : wheel_of set ≡ wheel_of first
+  pub image : image_of set ≡ image_of first
   pub last : last_of set ≡ last_time (reverse (take k is))
+  pub stepped : stepped_of set ≡ k
   pub reports : All IsReportInRange (reports_of 1 (take k is) (reverse verdicts))
   pub certificate : All IsCertLineInRange (reverse lines)
   pub texts : GetsTexts v u slot old new (lines_text (pairs_of (take k is) verdicts lines)) (beside_text (pairs_of (take k is) verdicts lines))
   pub heard : live ≡ told_all (marks_beside (pairs_of (take k is) verdicts lines)) taps
 
 -- none yet
-pub none_put : (first : PlainSet) (v : View) (slot : ℕ) (old : Option (List ℕ)) (taps : List Meaning) (is : List Instant) → StandsFor first [] [] → last_of first ≡ None → Appends old old [] → HasPut first first v v slot old old taps taps is 0
-none_put first v slot old taps is s l a = record {
+pub none_put : (first : Session) (v : View) (slot : ℕ) (old : Option (List ℕ)) (taps : List Meaning) (is : List Instant) → HasWalked first [] [] → last_of first ≡ None → stepped_of first ≡ 0 → Appends old old [] → HasPut first first v v slot old old taps taps is 0
+none_put first v slot old taps is s l none_stepped a = record {
   verdicts = [];
   lines = [];
   window = [];
-  stands = s;
+  walked = s;
   exact = refl;
-  wheel = refl;
+  image = refl;
   last = l;
+  stepped = none_stepped;
   reports = none IsReportInRange;
   certificate = none IsCertLineInRange;
   texts = record { out = a; file = stays v slot };
@@ -192,9 +197,6 @@ later_than_last is (suc k) i last r h here e =
 -- how many instants were taken
 taken : (is : List Instant) (k : ℕ) → k < length is → length (take k is) ≡ k
 taken is k h = length-take-le k is (omega (arith, h))
-
-pub number_at : (is : List Instant) (k : ℕ) → k < length is → k + 1 ≡ length (reverse (take k is)) + 1
-number_at is k h = ap (λ n. n + 1) (sym (length-reverse (take k is) ∙ taken is k h))
 
 -- the pairs of one more instant
 next_pairs : (w : WheelParts) (is : List Instant) (k : ℕ) (i : Instant) (vs : List Verdict) (cs : List CertLine) (window : List Instant) (v : Verdict) (c : CertLine) → k < length is → i ≡ get_or is k i
@@ -247,18 +249,18 @@ one_pair v u w slot old mid new first all f keeps is p q =
     (subst (λ l. GetsTexts v w slot old new l (beside_text first ++ beside_text (f ∷ []))) (sym (lines_more first (f ∷ []))) t))
 
 -- one more instant
-pub next_put : (first before after : PlainSet) (v u w : View) (slot : ℕ) (old mid new : Option (List ℕ)) (taps some live : List Meaning) (is : List Instant) (k : ℕ) (i : Instant) → k < length is → i ≡ get_or is k i → WritesOn v u slot
-    → (p : HasPut first before v u slot old mid taps some is k) → wheel_of after ≡ wheel_of before → last_of after ≡ Some i.time
-    → ((past : List Instant) (verdicts : List Verdict) (certificate : List CertLine) (window : List Instant) → StandsFor before past verdicts → AreExactLines (wheel_of before) past verdicts certificate window → k + 1 ≡ length past + 1
+pub next_put : (first before after : Session) (v u w : View) (slot : ℕ) (old mid new : Option (List ℕ)) (taps some live : List Meaning) (is : List Instant) (k : ℕ) (i : Instant) → IsRising is → k < length is → i ≡ get_or is k i → WritesOn v u slot
+    → (p : HasPut first before v u slot old mid taps some is k) → image_of after ≡ image_of before → last_of after ≡ Some i.time → stepped_of after ≡ stepped_of before + 1
+    → ((past : List Instant) (verdicts : List Verdict) (certificate : List CertLine) (window : List Instant) → HasWalked before past verdicts → IsRising (reverse (i ∷ past)) → AreExactLines (wheel_of before) past verdicts certificate window
     → GetsLines (wheel_of before) after u w slot mid new some live i past verdicts certificate)
     → HasPut first after v w slot old new taps live is (k + 1)
-next_put first before after v u w slot old mid new taps some live is k i h here keeps p wheel last step = rw add-one (by g)
+next_put first before after v u w slot old mid new taps some live is k i rising h here keeps p image last stepped step = rw add-one (by g)
   where
     x : AreExactLines (wheel_of before) (reverse (take k is)) p.verdicts p.lines p.window
-    x = subst (λ wheel. AreExactLines wheel (reverse (take k is)) p.verdicts p.lines p.window) (sym p.wheel) p.exact
+    x = subst (λ wheel. AreExactLines wheel (reverse (take k is)) p.verdicts p.lines p.window) (sym (ap wheel_parts_of p.image)) p.exact
 
     g : GetsLines (wheel_of before) after u w slot mid new some live i (reverse (take k is)) p.verdicts p.lines
-    g = step (reverse (take k is)) p.verdicts p.lines p.window p.stands x (number_at is k h)
+    g = step (reverse (take k is)) p.verdicts p.lines p.window p.walked (rising_next is k i h here rising) x
 
     by : GetsLines (wheel_of before) after u w slot mid new some live i (reverse (take k is)) p.verdicts p.lines → HasPut first after v w slot old new taps live is (suc k)
     by g =
@@ -270,10 +272,11 @@ next_put first before after v u w slot old mid new taps some live is k i h here 
           verdicts = t.verdict ∷ p.verdicts;
           lines = t.line ∷ p.lines;
           window = t.window;
-          stands = subst (λ l. StandsFor after l (t.verdict ∷ p.verdicts)) (sym past) t.stands;
+          walked = subst (λ l. HasWalked after l (t.verdict ∷ p.verdicts)) (sym past) t.walked;
           exact = subst (λ l. AreExactLines (wheel_of first) l (t.verdict ∷ p.verdicts) (t.line ∷ p.lines) t.window) (sym past)
-              (subst (λ wheel. AreExactLines wheel (i ∷ reverse (take k is)) (t.verdict ∷ p.verdicts) (t.line ∷ p.lines) t.window) p.wheel t.exact);
-          wheel = wheel ∙ p.wheel;
+              (subst (λ wheel. AreExactLines wheel (i ∷ reverse (take k is)) (t.verdict ∷ p.verdicts) (t.line ∷ p.lines) t.window) (ap wheel_parts_of p.image) t.exact);
+          image = image ∙ p.image;
+          stepped = omega (arith, stepped, p.stepped);
           last = last ∙ ap last_time (sym past);
           reports = subst (All IsReportInRange) (sym reports) (all_one_more IsReportInRange (reports_of 1 (take k is) (reverse p.verdicts)) (report_of (length (reverse (take k is)) + 1) i t.verdict) p.reports t.report_range);
           certificate = subst (All IsCertLineInRange) (sym (reverse-append (t.line ∷ []) p.lines)) (all_one_more IsCertLineInRange (reverse p.lines) t.line p.certificate t.line_range);
@@ -289,15 +292,15 @@ some_first : {X : Type 0} (xs : List X) (n : ℕ) → 0 < n → length xs ≡ n 
 some_first [] n h e = absurd (omega (arith, h, e))
 some_first (x ∷ rest) n h e = (x, (rest, refl))
 
-pub stopped : (e : Cause) (first before after : PlainSet) (v u w : View) (slot : ℕ) (old mid new : Option (List ℕ)) (taps some live : List Meaning) (is : List Instant) (k : ℕ) (i : Instant) → IsWheel (wheel_of first) → IsRising is → k < length is → i ≡ get_or is k i → WritesOn v u slot
+pub stopped : (e : Cause) (first before after : Session) (v u w : View) (slot : ℕ) (old mid new : Option (List ℕ)) (taps some live : List Meaning) (is : List Instant) (k : ℕ) (i : Instant) → IsWheel (wheel_of first) → IsRising is → k < length is → i ≡ get_or is k i → WritesOn v u slot
     → (p : HasPut first before v u slot old mid taps some is k) → (e ≡ cause.WriteFault → live ≡ some)
-    → ((past : List Instant) (verdicts : List Verdict) (certificate : List CertLine) (window : List Instant) → StandsFor before past verdicts → AreExactLines (wheel_of before) past verdicts certificate window → k + 1 ≡ length past + 1
+    → ((past : List Instant) (verdicts : List Verdict) (certificate : List CertLine) (window : List Instant) → HasWalked before past verdicts → IsRising (reverse (i ∷ past)) → AreExactLines (wheel_of before) past verdicts certificate window
     → ((e ≡ cause.Memory) × GetsTexts u w slot mid new [] []) ⊎ GetsCutLines e (wheel_of before) after u w slot mid new i past verdicts certificate)
     → GetsBothFront e (wheel_of first) is v w slot old new taps live
-stopped e first before after v u w slot old mid new taps some live is k i wheel rising h here keeps p untold step = by (step (reverse (take k is)) p.verdicts p.lines p.window p.stands x (number_at is k h))
+stopped e first before after v u w slot old mid new taps some live is k i wheel rising h here keeps p untold step = by (step (reverse (take k is)) p.verdicts p.lines p.window p.walked (rising_next is k i h here rising) x)
   where
     x : AreExactLines (wheel_of before) (reverse (take k is)) p.verdicts p.lines p.window
-    x = subst (λ wheel. AreExactLines wheel (reverse (take k is)) p.verdicts p.lines p.window) (sym p.wheel) p.exact
+    x = subst (λ wheel. AreExactLines wheel (reverse (take k is)) p.verdicts p.lines p.window) (sym (ap wheel_parts_of p.image)) p.exact
 
     by : ((e ≡ cause.Memory) × GetsTexts u w slot mid new [] []) ⊎ GetsCutLines e (wheel_of before) after u w slot mid new i (reverse (take k is)) p.verdicts p.lines → GetsBothFront e (wheel_of first) is v w slot old new taps live
     by (inl (want, none)) =
@@ -320,7 +323,7 @@ stopped e first before after v u w slot old mid new taps some live is k i wheel 
         let f = fellow_of (report_of (length (reverse (take k is)) + 1) i t.verdict) t.line in
         let exact : AreExactLines (wheel_of first) (reverse (take (suc k) is)) (t.verdict ∷ p.verdicts) (t.line ∷ p.lines) t.window
         = subst (λ l. AreExactLines (wheel_of first) l (t.verdict ∷ p.verdicts) (t.line ∷ p.lines) t.window) (sym past)
-        (subst (λ wheel. AreExactLines wheel (i ∷ reverse (take k is)) (t.verdict ∷ p.verdicts) (t.line ∷ p.lines) t.window) p.wheel t.exact) in
+        (subst (λ wheel. AreExactLines wheel (i ∷ reverse (take k is)) (t.verdict ∷ p.verdicts) (t.line ∷ p.lines) t.window) (ap wheel_parts_of p.image) t.exact) in
         let more = goes_on (wheel_of first) is (suc k) (t.verdict ∷ p.verdicts) (t.line ∷ p.lines) t.window wheel rising exact in
         let pairs = next_pairs (wheel_of first) is k i p.verdicts p.lines p.window t.verdict t.line h here p.exact in
         record {
@@ -337,7 +340,7 @@ stopped e first before after v u w slot old mid new taps some live is k i wheel 
 
 -- ---- all instants
 
-pub all_put : (first set : PlainSet) (v u : View) (slot : ℕ) (old new : Option (List ℕ)) (taps live : List Meaning) (is : List Instant) → IsWheel (wheel_of first) → IsRising is → HasPut first set v u slot old new taps live is (length is)
+pub all_put : (first set : Session) (v u : View) (slot : ℕ) (old new : Option (List ℕ)) (taps live : List Meaning) (is : List Instant) → IsWheel (wheel_of first) → IsRising is → HasPut first set v u slot old new taps live is (length is)
     → GetsBoth (wheel_of first) is v u slot old new taps live
 all_put first set v u slot old new taps live is wheel rising p =
     let all : take (length is) is ≡ is = take-length is in

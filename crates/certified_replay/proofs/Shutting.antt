@@ -1,6 +1,5 @@
 -- Work that taps are told of, from the opening of the capture to the closing of the taps.
-use Rattle.std.proofs.Common.{◌≡◌, ℕ, ◌⊎◌, inl, inr, List, [], Option, None, Result, Err, refl, sym, ◌∙◌, ap, subst, arith}
-use Rattle.std.specs.Prelude.{IsTrue}
+use Rattle.std.proofs.Common.{◌≡◌, ℕ, ◌⊎◌, inl, inr, List, [], Option, Result, Err, refl, sym, ◌∙◌, ap, subst, arith}
 use Rattle.std.proofs.KnownBytes.{Appends-nil}
 use Rattle.shelf_traits.specs.Shelf.{View}
 use Rattle.shelf_io.proofs.Touching.{touches_lifted}

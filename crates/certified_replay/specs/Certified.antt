@@ -14,10 +14,10 @@ use Rattle.certificate_checker.specs.Laws.{AreOwn}
 use Rattle.tap_board.specs.Marks.{mark_of}
 use Rattle.command_words.specs.Options.{Options}
 use Rattle.run_ends.specs.declared.cause.Done.{Done}
-use Rattle.run_ends.specs.Works.{Work, Reads}
+use Rattle.run_ends.specs.Works.{Work}
 use Rattle.run_ends.specs.Stages.{Fellows, Opens, Closes, Creates, Takes, WritesBoth}
-use Rattle.run_files.specs.Causes.{FileGives, ModelGives, ended_by}
-use Rattle.run_files.specs.Files.{HasPlacedWheel}
+use Rattle.run_files.specs.Causes.{FileGives, ended_by}
+use Rattle.table_models.specs.Models.{ReadsModel}
 use Rattle.named_captures.specs.Captures.{HasNamedCapture}
 
 -- the lines of a report, beside them those of a certificate, and the marks of the report
@@ -58,7 +58,6 @@ IsCertifiedPast v w capture cert o = Creates cert (Takes v (FileGives v.file cap
 abbrev pub IsCertifiedOver : View → (tails : List ℕ → List ℕ) → WheelParts → (capture cert : List ℕ) → Options → Work → Type 0
 IsCertifiedOver v tails w capture cert o = Opens v capture (Closes tails (IsCertifiedPast v w capture cert o))
 
--- The model is read, and is a wheel with few enough places; then it is replayed over it.
+-- The model is read, and is a sound image or the file of a wheel that has one; then the capture is replayed over its wheel.
 abbrev pub IsCertified : View → (tails : List ℕ → List ℕ) → (model capture cert : List ℕ) → Options → Work → Type 0
-IsCertified v tails model capture cert o =
-    Reads v model (ModelGives v.file model) (HasPlacedWheel v.file model) (λ w. IsCertifiedOver v tails w capture cert o)
+IsCertified v tails model capture cert o = ReadsModel v model (λ w. IsCertifiedOver v tails w capture cert o)

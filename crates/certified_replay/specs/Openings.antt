@@ -1,5 +1,5 @@
 -- What calls leave that open a file for reading, and then read it whole.
-use Rattle.std.specs.Prelude.{◌≡◌, ◌≤◌, ◌<◌, ◌^◌, ℕ, List, [], ◌∷◌, length, IsTrue, IsSome, None, Result, Ok, Err, ⊤}
+use Rattle.std.specs.Prelude.{◌≡◌, ◌≤◌, ◌<◌, ◌^◌, ℕ, List, [], ◌∷◌, length, IsTrue, IsSome, None, ⊤}
 use Rattle.shelf_traits.specs.Count.{RoseWhere}
 use Rattle.shelf_traits.specs.Shelf.{View, IsReader, left_at}
 use Rattle.shelf_io.specs.Touching.{Touches}

@@ -10,7 +10,7 @@ use Rattle.wheel_types.specs.declared.verdict.Verdict.{Verdict}
 use Rattle.wheel_types.specs.declared.verdict.Report.{Report}
 use Rattle.wheel_types.specs.declared.parts.WheelParts.{WheelParts}
 use Rattle.wheel_types.specs.Texts.{report_line_text}
-use Rattle.plain_motion.specs.declared.set.PlainSet.{PlainSet}
+use Rattle.replay_core.specs.declared.session.Session.{Session}
 use Rattle.pair_certificate.specs.declared.line.CertLine.{CertLine}
 use Rattle.pair_certificate.specs.Certificates.{cert_line_text}
 use Rattle.certificate_checker.specs.Reports.{report_of}
@@ -53,14 +53,14 @@ abbrev pub fellow_of : Report → CertLine → Fellows
 fellow_of r c = stand_beside (report_line_text r) (cert_line_text c) (mark_of r.verdict)
 
 -- one more instant was taken, out and the file got its two lines, and the taps were told its mark
-pub record GetsLines (w : WheelParts) (set : PlainSet) (v u : View) (slot : ℕ) (old new : Option (List ℕ)) (taps live : List Meaning) (i : Instant) (past : List Instant) (verdicts : List Verdict) (certificate : List CertLine) : Type 0 where
-  pub takes : TakesOne w set i past verdicts certificate
+pub record GetsLines (w : WheelParts) (session : Session) (v u : View) (slot : ℕ) (old new : Option (List ℕ)) (taps live : List Meaning) (i : Instant) (past : List Instant) (verdicts : List Verdict) (certificate : List CertLine) : Type 0 where
+  pub takes : TakesOne w session i past verdicts certificate
   pub texts : GetsTexts v u slot old new (report_line_text (report_of (length past + 1) i takes.verdict)) (cert_line_text takes.line)
   pub heard : live ≡ told (mark_of takes.verdict) taps
 
 -- or they got its two lines as far as writing came
-pub record GetsCutLines (e : Cause) (w : WheelParts) (set : PlainSet) (v u : View) (slot : ℕ) (old new : Option (List ℕ)) (i : Instant) (past : List Instant) (verdicts : List Verdict) (certificate : List CertLine) : Type 0 where
-  pub takes : TakesOne w set i past verdicts certificate
+pub record GetsCutLines (e : Cause) (w : WheelParts) (session : Session) (v u : View) (slot : ℕ) (old new : Option (List ℕ)) (i : Instant) (past : List Instant) (verdicts : List Verdict) (certificate : List CertLine) : Type 0 where
+  pub takes : TakesOne w session i past verdicts certificate
   pub cut : GetsCut e v u slot old new (fellow_of (report_of (length past + 1) i takes.verdict) takes.line)
 
 -- out and the file got the report of the instants and its exact certificate, these are a report and a certificate that is valid for it, and

@@ -93,7 +93,7 @@ replay_settles v tails m c o work told steady (w, (k, a)) r =
 replayed_settles : (v : View) (tails : List ℕ → List ℕ) (m c : List ℕ) (f : Option (List ℕ)) (o : Options) (work : Work) → IsTrue v.tells → IsTrue v.steady → AreReady v.file (Replay m c f o) → IsReplayed v tails m c f o work → IsSettled work.end
 replayed_settles v tails m c None o work told steady ready r = replay_settles v tails m c o work told steady ready r
 replayed_settles v tails m c (Some f) o work told steady (w, (k, a)) r =
-    certified_ends IsSettled v tails m c f o w k work told steady a.model_file a.capture_file (inl (ap ended_by a.clean)) (inr (inl refl)) (inr (inr refl)) r
+    certified_ends IsSettled v tails m c f o w k work told steady a.files.model_file a.files.capture_file (inl (ap ended_by a.clean)) (inr (inl refl)) (inr (inr refl)) r
 
 import_settles : (v : View) (source name : List ℕ) (work : Work) → IsTrue v.tells → IsTrue v.steady → AreReady v.file (Import source name) → IsImport v source name work → IsSettled work.end
 import_settles v source name work told steady (slots, h) r =

@@ -1,5 +1,5 @@
 -- When a run has nothing to refuse.
-use Rattle.std.specs.Prelude.{◌≡◌, ◌⊎◌, List, ℕ, None, Some}
+use Rattle.std.specs.Prelude.{◌≡◌, ◌⊎◌, List, ℕ}
 use Rattle.std.specs.declared.option.Option.{Option}
 use Rattle.wheel_types.specs.declared.parts.WheelParts.{WheelParts}
 use Rattle.capture_core.specs.declared.capture.Capture.{Capture}
@@ -31,12 +31,6 @@ pub record AreAccepted (file : List ℕ → Option (List ℕ)) (model capture_na
   pub files : AreRead file model capture_name o w capture
   pub clean : capture.end ≡ Clean
 
--- the same where a certificate is written, over a wheel file
-pub record AreCertifiable (file : List ℕ → Option (List ℕ)) (model capture_name : List ℕ) (o : Options) (w : WheelParts) (capture : Capture) : Type 0 where
-  pub model_file : HasPlacedWheel file model w
-  pub capture_file : HasNamedCapture file capture_name w o capture
-  pub clean : capture.end ≡ Clean
-
 -- the wheel's file is there, and its places and its family are within their limits
 pub record IsCounted (file : List ℕ → Option (List ℕ)) (wheel : List ℕ) (w : WheelParts) : Type 0 where
   pub wheel_file : HasPlacedWheel file wheel w
@@ -45,8 +39,7 @@ pub record IsCounted (file : List ℕ → Option (List ℕ)) (wheel : List ℕ) 
 -- the files are there, short enough and accepted: a certificate that is to be checked is valid, an image that is to be audited holds the
 -- table of its own wheel, and a wheel that is to have a stimulus has one
 abbrev pub AreReady : (List ℕ → Option (List ℕ)) → Order → Type 0
-AreReady file (Replay model capture_name None o) = (w : WheelParts) × ((capture : Capture) × AreAccepted file model capture_name o w capture)
-AreReady file (Replay model capture_name (Some cert) o) = (w : WheelParts) × ((capture : Capture) × AreCertifiable file model capture_name o w capture)
+AreReady file (Replay model capture_name cert o) = (w : WheelParts) × ((capture : Capture) × AreAccepted file model capture_name o w capture)
 AreReady file (Import source name) = (slots : List ℕ) × HasTable file source name slots
 AreReady file (Size wheel) = (w : WheelParts) × IsCounted file wheel w
 AreReady file (Compile wheel image) = (w : WheelParts) × IsCounted file wheel w

@@ -71,7 +71,7 @@ first instant.
 
 FILE gets the certificate of the report, a line after each line of the report:
 check tests it without any search. It is made, or written over, once the capture
-is opened. MODEL is a WHEEL then.
+is opened.
 
 NAMES are --time NAME, --crank NAME, --cam1 NAME, --cam2 NAME, for columns and
 signals.

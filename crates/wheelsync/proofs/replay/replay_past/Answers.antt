@@ -7,7 +7,8 @@ use Rattle.run_ends.proofs.Serving.{rises}
 use Rattle.replay_core.specs.Sessions.{image_of}
 use Rattle.wheelsync.specs.Stepping.{StandsOver}
 use Rattle.wheelsync.proofs.Endings.{report_front, report_whole, front_as, whole_as}
-use Rattle.wheelsync.proofs.Putting.{fresh_over}
+use Rattle.image_layout.specs.Fields.{wheel_parts_of}
+use Rattle.certified_replay.proofs.Walked.{fresh_walked}
 use Rattle.wheelsync.proofs.Replaying.{not_taken, taken}
 use Rattle.wheelsync.proofs.replay.replay_past.Goals as goal
 
@@ -22,7 +23,7 @@ returns-in_err-put_report g c =
     let b = c.args.sound.now.view.bytes.now in
     let image : image_of c.new-session.result ≡ b = c.new-session.ensures.image ∙ c.again.ensures ∙ ap (λ (v : View). v.bytes.now) c.view.ensures.view in
     let over : StandsOver c.args.watched.wheel.parts c.new-session.result [] [] =
-    fresh_over c.args.watched.wheel.parts c.new-session.result b image (c.args.sound.now.view.keeps, c.args.sound.now.sound) c.requires.wheel c.new-session.ensures.stands in
+    record { wheel = ap wheel_parts_of image ∙ c.requires.wheel; walked = fresh_walked c.new-session.result b image (c.args.sound.now.view.keeps, c.args.sound.now.sound) c.new-session.ensures.stands } in
     let wheel = subst IsWheel c.requires.wheel (is_wheel b c.args.sound.now.view.keeps) in
     rw (p.1, p.2)
     (λ v name h.
@@ -36,7 +37,7 @@ returns g c =
     let b = c.args.sound.now.view.bytes.now in
     let image : image_of c.new-session.result ≡ b = c.new-session.ensures.image ∙ c.again.ensures ∙ ap (λ (v : View). v.bytes.now) c.view.ensures.view in
     let over : StandsOver c.args.watched.wheel.parts c.new-session.result [] [] =
-    fresh_over c.args.watched.wheel.parts c.new-session.result b image (c.args.sound.now.view.keeps, c.args.sound.now.sound) c.requires.wheel c.new-session.ensures.stands in
+    record { wheel = ap wheel_parts_of image ∙ c.requires.wheel; walked = fresh_walked c.new-session.result b image (c.args.sound.now.view.keeps, c.args.sound.now.sound) c.new-session.ensures.stands } in
     rw (c.ended.ensures)
     (λ v name h.
     taken v _ _ _ name _ c.in_ok-capture.capture _ _ _ c.args.source _ h c.take_capture.ensures.keeps c.take_capture.ensures.place c.in_ok-capture.ensures.taken c.in_ok-capture.ensures.ok
